@@ -1,0 +1,10 @@
+pub mod ChoiceLaws
+pub mod OutcomeLaws
+pub mod BytesLaws
+pub mod NumberLaws
+pub mod MetaLaws
+pub mod FrameLaws
+pub mod KindLaws
+pub mod EventLaws
+pub mod Readings
+pub mod RefusalLaws

@@ -1,0 +1,12 @@
+pub mod Choice
+pub mod Bytes
+pub mod Number
+pub mod Meta
+pub mod Event
+pub mod Frame
+pub mod Spelling
+pub mod Layout
+pub mod Outcome
+pub mod Reader
+pub mod Readings
+pub mod Dates

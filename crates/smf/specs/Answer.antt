@@ -1,0 +1,18 @@
+-- "An answer is number, place and length."
+use Prim.Native.Nat.{ℕ}
+use Rattle.event.specs.Outcome.{Outcome, ok, refused}
+use Rattle.smf.specs.Piece.{Piece}
+use Rattle.smf.specs.declared.Answer.{Answer}
+
+-- "Success: 0, place 0, the length written"
+abbrev pub success : ℕ → Answer
+success n = record { number = 0; place = 0; length = n }
+
+-- "Any refusal: .. length is 0"
+abbrev pub refusal : ℕ → ℕ → Answer
+refusal number place = record { number = number; place = place; length = 0 }
+
+-- the verdict on a file: "the length written (0 for checking a file)"
+unfoldable pub verdict : Outcome Piece → Answer
+verdict (ok p r) = success 0
+verdict (refused n p) = refusal n p

@@ -1,0 +1,9 @@
+pub mod Piece
+pub mod Spelling
+pub mod Layout
+pub mod Manner
+pub mod Reader
+pub mod Answer
+pub mod Example
+pub mod Demand3
+pub mod Slips

@@ -1,0 +1,44 @@
+-- "A piece is a format, a division and a list of tracks. A track is a list of events, each with a Time, whose last and only
+-- last event is End_track."
+use mathlib.Core.Path.{_≡_}
+use Prim.Native.Nat.{ℕ, _≤_}
+use mathlib.Core.Bool.{Bool, true, false}
+use mathlib.Core.List.{List, [], _∷_}
+use lib.ListN.{length}
+use Rattle.event.specs.Event.{Event, Lawful, isEnd}
+
+-- pulses per quarter note
+pub record Division : Type 0 where
+  pub pulses : ℕ
+
+pub record Piece : Type 0 where
+  pub format : ℕ
+  pub division : Division
+  pub tracks : List (List Event)
+
+-- after End_track there is no event, after any other the rest is lawful
+unfoldable pub Ends : Bool → List Event → Type 0 → Type 0
+Ends true es P = es ≡ []
+Ends false es P = P
+
+-- the events of a track after the Time prev: "Times never fall along a track"; there is an End_track, and it is the last
+unfoldable pub LawfulEvents : ℕ → List Event → Type 0
+LawfulEvents prev [] = ⊥
+LawfulEvents prev (e ∷ es) = Lawful prev e × Ends (isEnd (e .kind)) es (LawfulEvents (e .time) es)
+
+unfoldable pub LawfulTracks : List (List Event) → Type 0
+LawfulTracks [] = Unit {0}
+LawfulTracks (t ∷ ts) = LawfulEvents 0 t × LawfulTracks ts
+
+-- "division 1..32767"
+unfoldable pub LawfulDivision : Division → Type 0
+LawfulDivision d = (1 ≤ d .pulses) × (d .pulses ≤ 32767)
+
+-- "format 0..2, track count 1..65535 (1 for format 0), division"
+pub record LawfulPiece (p : Piece) : Type 0 where
+  pub format : p .format ≤ 2
+  pub some : 1 ≤ length (p .tracks)
+  pub few : length (p .tracks) ≤ 65535
+  pub single : p .format ≡ 0 → length (p .tracks) ≡ 1
+  pub division : LawfulDivision (p .division)
+  pub tracks : LawfulTracks (p .tracks)
