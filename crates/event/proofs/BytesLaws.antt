@@ -1,14 +1,13 @@
 -- Bytes, numbers of a fixed count of bytes, and runs of bytes: what is laid out is read back, and what is read was laid out.
 use mathlib.Core.Path.{_≡_, sym, ap, ap₂, subst, _∙_}
 use Prim.Native.Nat.{ℕ, zero, suc, _+_, _-_, _*_, _/_, _%_, _<_, _≤_}
-use mathlib.Core.Bool.{true}
 use mathlib.Core.List.{List, [], _∷_, _++_, append-nil}
 use native.Mathlib.Omega.{arith}
-use lib.ListN.{length, take, drop, take-append-drop, length-append}
-use lib.Seq.{take-append-seam, drop-append-seam, length-take-le}
-use borrow.Author.Tests.{leb-true, le-leb}
+use lib.ListN.{length, take, drop, getD, take-append-drop, length-append, length-drop}
+use lib.Seq.{take-append-seam, drop-append-seam, length-take-le, drop-drop}
+use borrow.Author.Tests.{leb-true, le-leb, lt-leb}
 use Rattle.event.specs.Bytes.{Bytes, below, bytesOnto, bigEndian, horner, number}
-use Rattle.event.specs.Outcome.{Outcome, ok, refused, andThen}
+use Rattle.event.specs.Outcome.{ok, refused, andThen, check}
 use Rattle.event.specs.Reader.{readData, readNumber}
 use Rattle.event.proofs.OutcomeLaws.{andThen-ok, andThen-eq, check-ok, check-eq, ok-same}
 
@@ -124,3 +123,31 @@ number-sound k l v r bs e =
     let both : Bytes (d ++ m) = rw ld at bs in
     let (x, y) = number-fits k d (bytes-left d m both) hd in
     ok-same (number d) v m r q (λ p mr. rw (← p, ← mr) (record { fits = x; bytes = rw (y, ld); after = bytes-right d m both })))
+
+-- ---- a slice of bytes, and a place in it
+
+pub bytes-of : (s : List ℕ) → ((i : ℕ) → getD s i 0 < 256) → Bytes s
+bytes-of [] g = tt
+bytes-of (a ∷ s) g = (g 0, bytes-of s (λ i. g (suc i)))
+
+pub bytes-drop : (s : List ℕ) (at : ℕ) → Bytes s → Bytes (drop at s)
+bytes-drop s at b = bytes-right (take at s) (drop at s) (rw (take-append-drop at s) b)
+
+pub data-at : (s : List ℕ) (p n : ℕ) → p + n ≤ length s → readData n (drop p s) ≡ ok (take n (drop p s)) (drop (p + n) s)
+unfolding readData check
+data-at s p n h =
+    let fit : n ≤ length (drop p s) = simp length-drop (omega arith) in
+    rw (le-leb n (length (drop p s)) fit) (ap (ok (take n (drop p s))) (drop-drop n p s))
+
+pub data-short : (s : List ℕ) (p n : ℕ) → length s - p < n → readData n (drop p s) ≡ refused 6 0
+unfolding readData check
+data-short s p n h =
+    let few : length (drop p s) < n = simp length-drop h in
+    rw (lt-leb n (length (drop p s)) few)
+
+pub number-at : (s : List ℕ) (p k : ℕ) → p + k ≤ length s → readNumber k (drop p s) ≡ ok (number (take k (drop p s))) (drop (p + k) s)
+unfolding readNumber andThen
+number-at s p k h = simp (data-at s p k h)
+
+pub size-at : (s : List ℕ) (p n : ℕ) → p + n ≤ length s → length (take n (drop p s)) ≡ n
+size-at s p n h = let fit : n ≤ length (drop p s) = simp length-drop (omega arith) in length-take-le n (drop p s) fit

@@ -1,8 +1,7 @@
 -- One event: what is laid out is read back, what is read was laid out, and it takes a byte at least.
-use mathlib.Core.Path.{_≡_, refl, sym, ap, ap₂, subst, _∙_}
-use Prim.Native.Nat.{ℕ, zero, suc, _+_, _-_, _<_, _≤_}
-use mathlib.Core.Bool.{true}
-use mathlib.Core.List.{List, [], _∷_, _++_, append-assoc}
+use mathlib.Core.Path.{_≡_, ap, ap₂, _∙_}
+use Prim.Native.Nat.{ℕ, _+_, _-_, _<_, _≤_}
+use mathlib.Core.List.{List, _++_, append-assoc}
 use native.Mathlib.Omega.{arith}
 use lib.ListN.{length, length-append}
 use borrow.Author.Tests.{leb-true, le-leb}
@@ -12,7 +11,7 @@ use Rattle.event.specs.Event.{Event, Lawful}
 use Rattle.event.specs.Frame.{Frame, frame}
 use Rattle.event.specs.Spelling.{Spelling, Permitted}
 use Rattle.event.specs.Layout.{layFrame, layEvent}
-use Rattle.event.specs.Outcome.{Outcome, ok, refused}
+use Rattle.event.specs.Outcome.{ok}
 use Rattle.event.specs.Reader.{readVlq, readFrame, kindIn, readEvent}
 use Rattle.event.proofs.OutcomeLaws.{andThen-ok, andThen-eq, check-ok, check-eq, ok-same}
 use Rattle.event.proofs.BytesLaws.{bytes-right}

@@ -1,11 +1,11 @@
 -- An event after its delta, by its shape: what is laid out is read back, and what is read was laid out.
-use mathlib.Core.Path.{_≡_, refl, sym, ap, subst, _∙_}
-use Prim.Native.Nat.{ℕ, zero, suc, _+_, _*_, _<_, _≤_}
-use mathlib.Core.Bool.{Bool, true, false, _&&_, _||_, false≢true}
+use mathlib.Core.Path.{_≡_, refl, _∙_}
+use Prim.Native.Nat.{ℕ, _+_, _<_, _≤_}
+use mathlib.Core.Bool.{true, false, _||_, false≢true}
 use mathlib.Core.List.{List, [], _∷_, _++_, append-assoc}
 use mathlib.Core.Logic.{_⊎_, inl, inr}
 use native.Mathlib.Omega.{arith}
-use lib.ListN.{length, length-append}
+use lib.ListN.{length}
 use lib.Dec.{leb, eqb}
 use borrow.Author.Tests.{leb-true, leb-false, le-leb, lt-leb, eqb-true}
 use Rattle.event.specs.Choice.{pick}
@@ -15,7 +15,7 @@ use Rattle.event.specs.Meta.{kindOf}
 use Rattle.event.specs.Frame.{Frame, channel1, channel2, exclusive, meta}
 use Rattle.event.specs.Spelling.{Rest, leftOut, lengthIn, Spelled}
 use Rattle.event.specs.Layout.{layChannel, layFrame}
-use Rattle.event.specs.Outcome.{Outcome, ok, refused, andThen, check}
+use Rattle.event.specs.Outcome.{ok}
 use Rattle.event.specs.Reader.{dataByte, oneData, twoData, oneByte, channelData, isChannel, readVlq, readData, readExclusive, lengthOk, valueOk, metaData, readMetaOf, readMeta, readFrame}
 use Rattle.event.proofs.ChoiceLaws.{pick-true, pick-false, pick-cases, or-cases, and-both}
 use Rattle.event.proofs.OutcomeLaws.{not-ok, andThen-ok, andThen-eq, check-ok, check-eq}

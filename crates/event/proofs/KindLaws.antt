@@ -1,14 +1,13 @@
 -- The rows of the table and the shapes of their bytes: each row's bytes are valid and give the row back, and valid bytes are those of a row.
-use mathlib.Core.Path.{_≡_, refl, sym, ap, ap₂, subst, _∙_}
-use Prim.Native.Nat.{ℕ, zero, suc, _+_, _-_, _*_, _/_, _%_, _<_, _≤_}
-use mathlib.Core.Bool.{Bool, true, false, _&&_, _||_}
+use mathlib.Core.Path.{_≡_, refl, sym, ap, ap₂, _∙_}
+use Prim.Native.Nat.{ℕ, _+_, _-_, _*_, _/_, _%_, _<_, _≤_}
+use mathlib.Core.Bool.{true, false, _&&_, _||_}
 use mathlib.Core.List.{List, [], _∷_}
 use mathlib.Core.Logic.{_⊎_, inl, inr}
 use native.Mathlib.Omega.{arith}
 use lib.ListN.{length, getD}
-use lib.Dec.{leb, eqb}
+use lib.Dec.{leb}
 use borrow.Author.Tests.{leb-true, leb-false, le-leb, lt-leb, eqb-true}
-use Rattle.event.specs.Choice.{pick}
 use Rattle.event.specs.Bytes.{Bytes, bytesOnto, bigEndian, number, horner}
 use Rattle.event.specs.Meta.{MetaKind, sequenceKind, textKind, prefixKind, portKind, endKind, tempoKind, offsetKind, timeKind, keyKind, specificKind, unknownKind, kindOf}
 use Rattle.event.specs.Event.{Key, sharps, flats, KeyFits, Kind, noteOff, noteOn, polyAftertouch, control, program, channelAftertouch, pitchBend, systemExclusive, systemExclusivePacket, sequenceNumber, text, channelPrefix, midiPort, endTrack, tempo, smpteOffset, timeSignature, keySignature, sequencerSpecific, unknownMeta, Fits}

@@ -8,3 +8,8 @@ pub mod KindLaws
 pub mod EventLaws
 pub mod Readings
 pub mod RefusalLaws
+pub mod PlaceLaws
+pub mod LoopLaws
+pub mod RowLaws
+pub mod StatusLaws
+pub mod StepLaws

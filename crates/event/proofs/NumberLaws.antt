@@ -1,7 +1,6 @@
 -- Variable-length numbers: what is laid out is read back, what is read was laid out, and writers use the fewest bytes.
-use mathlib.Core.Path.{_≡_, refl, sym, ap, subst, _∙_}
-use Prim.Native.Nat.{ℕ, zero, suc, _+_, _-_, _*_, _/_, _%_, _<_, _≤_}
-use mathlib.Core.Bool.{true, false}
+use mathlib.Core.Path.{_≡_, ap, _∙_}
+use Prim.Native.Nat.{ℕ, suc, _+_, _-_, _*_, _/_, _%_, _<_, _≤_}
 use mathlib.Core.List.{List, [], _∷_, _++_}
 use native.Mathlib.Omega.{arith}
 use lib.Dec.{ltb}
@@ -10,7 +9,7 @@ use borrow.Author.Tests.{ltb-true, ltb-false, lt-ltb, le-ltb}
 use Rattle.event.specs.Choice.{pick}
 use Rattle.event.specs.Bytes.{Bytes}
 use Rattle.event.specs.Number.{Width, w1, w2, w3, w4, limit, vlq, least}
-use Rattle.event.specs.Outcome.{Outcome, ok, refused}
+use Rattle.event.specs.Outcome.{ok}
 use Rattle.event.specs.Reader.{readMore, readVlq}
 use Rattle.event.proofs.ChoiceLaws.{pick-cases, by-test}
 use Rattle.event.proofs.OutcomeLaws.{not-ok}

@@ -1,5 +1,5 @@
 -- The starred readings hold: computed from the definitions.
-use mathlib.Core.Path.{_≡_, refl}
+use mathlib.Core.Path.{refl}
 use Rattle.event.specs.Choice.{pick}
 use Rattle.event.specs.Bytes.{number, horner}
 use Rattle.event.specs.Meta.{kindOf}

@@ -10,3 +10,4 @@ pub mod Outcome
 pub mod Reader
 pub mod Readings
 pub mod Dates
+pub mod Step

@@ -1,6 +1,11 @@
-// Numbers, Times and events of a track.
+// Numbers, Times and events: one event of a track, read from its bytes.
 ghost use mathlib.Core.Path.{_≡_};
-ghost use Rattle.event.specs.Dates.{laterOf};
+ghost use Rattle.event.specs.Dates.{laterOf, sinceOf};
+
+pub mod number; // number.rt: variable-length numbers, and bytes at a place
+pub mod channel; // channel.rt: channel events
+pub mod meta; // meta.rt: system exclusive and meta events
+pub mod read; // read.rt: an event with its delta
 
 // A relative date: the delta in the file.
 pub struct Delta(pub u32);
@@ -11,6 +16,11 @@ pub struct Time(pub u32);
 pub enum Later {
     At(Time),
     Over,
+}
+
+pub enum Since {
+    After(Delta),
+    Before,
 }
 
 impl Time {
@@ -25,4 +35,143 @@ impl Time {
         }
         Later::Over
     }
+
+    // A Time less an earlier one is a delta.
+    pub fn since(self, earlier: Time) -> Since
+        ensures { λ r. ⌜ r ≡ sinceOf (self .0) (earlier .0) ⌝ }
+    {
+        let t = self.0;
+        let u = earlier.0;
+        if u <= t {
+            return Since::After(Delta(t - u));
+        }
+        Since::Before
+    }
+}
+
+// The kind of an event and its fields; data bytes as their place in the track's body and their
+// count, a key as its byte.
+pub enum EventKind {
+    NoteOff {
+        channel: u8,
+        key: u8,
+        velocity: u8,
+    },
+    NoteOn {
+        channel: u8,
+        key: u8,
+        velocity: u8,
+    },
+    PolyAftertouch {
+        channel: u8,
+        key: u8,
+        value: u8,
+    },
+    Control {
+        channel: u8,
+        controller: u8,
+        value: u8,
+    },
+    Program {
+        channel: u8,
+        number: u8,
+    },
+    ChannelAftertouch {
+        channel: u8,
+        value: u8,
+    },
+    PitchBend {
+        channel: u8,
+        value: u16,
+    },
+    SystemExclusive {
+        start: usize,
+        len: usize,
+    },
+    SystemExclusivePacket {
+        start: usize,
+        len: usize,
+    },
+    SequenceNumber {
+        number: u32,
+    },
+    Text {
+        kind: u8,
+        start: usize,
+        len: usize,
+    },
+    ChannelPrefix {
+        number: u8,
+    },
+    MidiPort {
+        number: u8,
+    },
+    EndTrack,
+    Tempo {
+        micros: u32,
+    },
+    SmpteOffset {
+        hour: u8,
+        minute: u8,
+        second: u8,
+        frame: u8,
+        part: u8,
+    },
+    TimeSignature {
+        numerator: u8,
+        denominator: u8,
+        click: u8,
+        notes: u8,
+    },
+    KeySignature {
+        key: u8,
+        minor: u8,
+    },
+    SequencerSpecific {
+        start: usize,
+        len: usize,
+    },
+    UnknownMeta {
+        kind: u8,
+        start: usize,
+        len: usize,
+    },
+}
+
+// What reading a variable-length number answers: its value and the place after it, or a refusal.
+pub enum NumberStep {
+    Value { value: u32, next: usize },
+    Unread { number: u8 },
+}
+
+// What reading a channel data byte answers.
+pub enum ByteStep {
+    Byte { value: u8, next: usize },
+    Bad { number: u8 },
+}
+
+// What reading an event after its delta answers: the event, the place after it and the status
+// then in force (0: none), or a refusal.
+pub enum FrameStep {
+    Found {
+        kind: EventKind,
+        next: usize,
+        status: u8,
+    },
+    Refused {
+        number: u8,
+    },
+}
+
+// What reading an event with its delta answers.
+pub enum EventStep {
+    Read {
+        time: Time,
+        kind: EventKind,
+        next: usize,
+        status: u8,
+    },
+    Stop {
+        number: u8,
+    },
 }

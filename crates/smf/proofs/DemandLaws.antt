@@ -1,7 +1,6 @@
 -- Demand 3 of the definitions: accepted exactly where laid out, with that piece; and one layout has one piece.
 use mathlib.Core.Path.{_≡_, refl, sym, ap, _∙_}
 use Prim.Native.Nat.{ℕ, _≤_}
-use mathlib.Core.Bool.{Bool, true, false}
 use mathlib.Core.List.{List, []}
 use mathlib.Core.Logic.{_↔_}
 use native.Mathlib.Omega.{arith}
@@ -13,8 +12,7 @@ use Rattle.event.specs.Outcome.{Outcome, ok, refused, check}
 use Rattle.event.proofs.OutcomeLaws.{check-ok, check-eq}
 use Rattle.event.proofs.RefusalLaws.{Fair}
 use Rattle.smf.specs.Piece.{Piece}
-use Rattle.smf.specs.Spelling.{PieceSpelling}
-use Rattle.smf.specs.Layout.{layPiece, HasLayout, LaidOut}
+use Rattle.smf.specs.Layout.{LaidOut}
 use Rattle.smf.specs.Reader.{readPiece, fileLimit, readFile}
 use Rattle.smf.specs.Answer.{verdict}
 use Rattle.smf.specs.Demand3.{Demand3}

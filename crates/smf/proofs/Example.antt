@@ -1,6 +1,6 @@
 -- The worked example, computed from the definitions: read, and laid out in both manners.
 use mathlib.Core.Path.{_≡_, refl}
-use mathlib.Core.List.{List, []}
+use mathlib.Core.List.{[]}
 use lib.ListN.{length}
 use Rattle.event.specs.Choice.{pick}
 use Rattle.event.specs.Bytes.{bytesOnto, bigEndian, number, horner}

@@ -1,23 +1,23 @@
 -- Chunks, tracks, header and whole files: what is laid out is read back, and what is read was laid out.
-use mathlib.Core.Path.{_≡_, refl, sym, ap, ap₂, subst, _∙_}
-use Prim.Native.Nat.{ℕ, zero, suc, _+_, _-_, _*_, _<_, _≤_}
-use mathlib.Core.Bool.{Bool, true, false, not, _&&_, _||_}
+use mathlib.Core.Path.{_≡_, refl, sym, ap, ap₂, _∙_}
+use Prim.Native.Nat.{ℕ, zero, suc, _+_, _-_, _<_, _≤_}
+use mathlib.Core.Bool.{true, not}
 use mathlib.Core.List.{List, [], _∷_, _++_, append-assoc, append-nil}
 use native.Mathlib.Omega.{arith}
 use lib.ListN.{length, take, drop, length-append, take-append-drop}
 use lib.Seq.{take-append-seam, drop-append-seam, length-take-le}
 use lib.Dec.{leb, eqb}
 use borrow.Author.Tests.{leb-true, le-leb, eqb-true, eqb-false, eq-eqb, ne-eqb, not-true}
-use Rattle.event.specs.Bytes.{Bytes, below, bigEndian}
+use Rattle.event.specs.Bytes.{Bytes, bigEndian}
 use Rattle.event.specs.Event.{Event}
 use Rattle.event.specs.Frame.{noStatus}
 use Rattle.event.specs.Spelling.{Spelling}
-use Rattle.event.specs.Outcome.{Outcome, ok, refused}
+use Rattle.event.specs.Outcome.{ok}
 use Rattle.event.specs.Reader.{readNumber}
 use Rattle.event.proofs.ChoiceLaws.{or-cases, and-both}
 use Rattle.event.proofs.OutcomeLaws.{not-ok, ok-same, andThen-ok, andThen-eq, check-ok, check-eq}
 use Rattle.event.proofs.BytesLaws.{bytes-left, bytes-right, length-bigEndian, number-read, number-sound}
-use Rattle.smf.specs.Piece.{Division, Piece, LawfulEvents, LawfulTracks, LawfulDivision, LawfulPiece}
+use Rattle.smf.specs.Piece.{Division, Piece, LawfulEvents, LawfulTracks, LawfulDivision}
 use Rattle.smf.specs.Spelling.{PieceSpelling, PermittedEvents, PermittedTracks, PermittedPiece}
 use Rattle.smf.specs.Layout.{headerTag, trackTag, layEvents, layTrack, layTracks, layDivision, layHeader, layPiece, ShortTracks, HasLayout, LaidOut}
 use Rattle.smf.specs.Reader.{readAll, readTrack, readTracks, Header, countOk, divisionOk, readHeader, noMore, readPiece}

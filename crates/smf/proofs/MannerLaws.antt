@@ -1,6 +1,6 @@
 -- The two manners: each spelling is permitted where any is, so its file is a layout and reads back.
-use mathlib.Core.Path.{_≡_, refl, sym, ap, _∙_}
-use Prim.Native.Nat.{ℕ, _-_, _<_, _≤_}
+use mathlib.Core.Path.{_≡_, refl, ap}
+use Prim.Native.Nat.{ℕ, _-_}
 use mathlib.Core.Bool.{Bool, true, false, false≢true}
 use mathlib.Core.List.{List, [], _∷_}
 use native.Mathlib.Omega.{arith}
@@ -8,12 +8,12 @@ use lib.ListN.{length}
 use borrow.Author.Tests.{eqb-true, eq-eqb}
 use Rattle.event.specs.Event.{Event}
 use Rattle.event.specs.Frame.{Frame, channel1, channel2, exclusive, meta, frame, after, noStatus}
-use Rattle.event.specs.Spelling.{Rest, leftOut, lengthIn, Spelling, Spelled, Permitted}
+use Rattle.event.specs.Spelling.{Rest, leftOut, lengthIn, Spelling, Spelled}
 use Rattle.event.specs.Outcome.{ok}
 use Rattle.event.proofs.NumberLaws.{least-fits}
 use Rattle.smf.specs.Piece.{Piece, LawfulPiece}
 use Rattle.smf.specs.Spelling.{PieceSpelling, PermittedEvents, PermittedTracks, PermittedPiece}
-use Rattle.smf.specs.Layout.{layPiece, ShortTracks, HasLayout}
+use Rattle.smf.specs.Layout.{ShortTracks}
 use Rattle.smf.specs.Manner.{Manner, full, short, statusIn, restIn, spellEvents, spellTracks, spelling, fileOf}
 use Rattle.smf.specs.Reader.{readPiece}
 use Rattle.smf.proofs.FileLaws.{piece-read}

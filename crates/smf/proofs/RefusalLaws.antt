@@ -1,28 +1,25 @@
 -- Every refusal of a file has a number that is not 0, and its place lies in the file.
-use mathlib.Core.Path.{_≡_, refl, sym, ap, _∙_}
-use Prim.Native.Nat.{ℕ, zero, suc, _+_, _-_, _<_, _≤_}
+use mathlib.Core.Path.{_≡_, ap, _∙_}
+use Prim.Native.Nat.{ℕ, zero, suc, _+_, _-_, _≤_}
 use mathlib.Core.Bool.{Bool, true, false}
 use mathlib.Core.List.{List, [], _∷_, _++_}
 use native.Mathlib.Omega.{arith}
 use lib.ListN.{length, take, drop, length-append, take-append-drop}
 use lib.Seq.{length-take-le}
-use lib.Dec.{leb}
 use borrow.Author.Tests.{leb-true}
 use Rattle.event.specs.Bytes.{Bytes, bigEndian}
 use Rattle.event.specs.Event.{Event, isEnd}
 use Rattle.event.specs.Frame.{frame, after, noStatus}
-use Rattle.event.specs.Outcome.{Outcome, ok, refused, andThen, check, placed}
-use Rattle.event.specs.Reader.{readNumber, readEvent}
-use Rattle.event.proofs.ChoiceLaws.{by-test}
+use Rattle.event.specs.Outcome.{Outcome}
+use Rattle.event.specs.Reader.{readEvent}
 use Rattle.event.proofs.OutcomeLaws.{placed-ok}
-use Rattle.event.proofs.BytesLaws.{bytes-left, bytes-right, length-bigEndian, number-sound}
+use Rattle.event.proofs.BytesLaws.{bytes-left, length-bigEndian, number-sound}
 use Rattle.event.proofs.EventLaws.{event-shorter}
 use Rattle.event.proofs.RefusalLaws.{Fair, then-fair, check-fair, placed-fair, number-fair, event-fair}
 use Rattle.smf.specs.Piece.{Piece}
-use Rattle.smf.specs.Layout.{layTrack, layTracks}
-use Rattle.smf.specs.Reader.{ended, goOn, readEvents, readAll, readTrack, readTracks, readHeader, noMore, readPiece, fileLimit, readFile}
-use Rattle.smf.specs.Answer.{verdict}
-use Rattle.smf.proofs.FileLaws.{track-sound, tracks-sound, header-sound, header-size}
+use Rattle.smf.specs.Layout.{layTrack}
+use Rattle.smf.specs.Reader.{ended, goOn, readEvents, readAll, readTrack, readTracks, readHeader, noMore, readPiece, readFile}
+use Rattle.smf.proofs.FileLaws.{track-sound, header-sound, header-size}
 
 go-fair : (m : ℕ) (b : Bool) (at : ℕ) (e : Event) (r : List ℕ) (k : Outcome (List Event)) → at ≤ m → Fair m k → Fair m (goOn b at e r k)
 unfolding goOn ended

@@ -1,16 +1,16 @@
 -- The events of a track: what is laid out is read back, and what is read was laid out.
-use mathlib.Core.Path.{_≡_, refl, sym, ap, subst, _∙_}
+use mathlib.Core.Path.{_≡_, refl, ap, _∙_}
 use Prim.Native.Nat.{ℕ, zero, suc, _+_, _-_, _<_, _≤_}
 use mathlib.Core.Bool.{Bool, true, false}
-use mathlib.Core.List.{List, [], _∷_, _++_, append-nil}
+use mathlib.Core.List.{List, [], _∷_, _++_}
 use native.Mathlib.Omega.{arith}
 use lib.ListN.{length, length-append}
 use Rattle.event.specs.Bytes.{Bytes}
-use Rattle.event.specs.Event.{Event, Lawful, isEnd}
-use Rattle.event.specs.Frame.{frame, after, noStatus}
-use Rattle.event.specs.Spelling.{Spelling, Permitted}
+use Rattle.event.specs.Event.{Event, isEnd}
+use Rattle.event.specs.Frame.{frame, after}
+use Rattle.event.specs.Spelling.{Spelling}
 use Rattle.event.specs.Layout.{layEvent}
-use Rattle.event.specs.Outcome.{Outcome, ok, refused, andThen, placed}
+use Rattle.event.specs.Outcome.{Outcome, ok, andThen, placed}
 use Rattle.event.specs.Reader.{readEvent}
 use Rattle.event.proofs.OutcomeLaws.{not-ok, ok-same, andThen-ok, andThen-eq, andThen-same, placed-ok, placed-eq}
 use Rattle.event.proofs.BytesLaws.{bytes-right}

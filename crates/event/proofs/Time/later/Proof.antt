@@ -7,8 +7,6 @@ use borrow.Author.Tests.{le-leb, lt-leb}
 use borrow.Author.Needs.{needs}
 use Rattle.event.proofs.Time.later.Statement.{statement}
 use Rattle.event.proofs.Time.later.Tie as tie
-use Rattle.event.proofs.Time.later.Reads as reads
-use Rattle.event.proofs.Time.later.Lts as lts
 
 sub-if1 : tie.Need-sub-if1
 sub-if1 c = search needs

@@ -1,0 +1,94 @@
+-- What the code's enums say, by document 01's numbers and values: the answer of each reader on the rest of a slice of n bytes,
+-- with places in that slice. The place after what was read is n less what is left.
+use Prim.Native.Nat.{ℕ, _-_}
+use mathlib.Core.Bool.{Bool, true, false}
+use mathlib.Core.List.{List, []}
+use lib.ListN.{length, take, drop}
+use lib.Dec.{leb}
+use Rattle.event.specs.Choice.{pick}
+use Rattle.event.specs.Outcome.{Outcome, ok, refused}
+use Rattle.event.specs.Event.{Event, Kind, noteOff, noteOn, polyAftertouch, control, program, channelAftertouch, pitchBend, systemExclusive, systemExclusivePacket, sequenceNumber, text, channelPrefix, midiPort, endTrack, tempo, smpteOffset, timeSignature, keySignature, sequencerSpecific, unknownMeta}
+use Rattle.event.specs.Frame.{Frame, frame, after, keyByte}
+use Rattle.event.specs.Reader.{kindIn}
+use Rattle.event.specs.declared.Time.{Time}
+use Rattle.event.specs.declared.EventKind.{EventKind}
+use Rattle.event.specs.declared.EventKind.the-variants.{NoteOff, NoteOn, PolyAftertouch, Control, Program, ChannelAftertouch, PitchBend, SystemExclusive, SystemExclusivePacket, SequenceNumber, Text, ChannelPrefix, MidiPort, EndTrack, Tempo, SmpteOffset, TimeSignature, KeySignature, SequencerSpecific, UnknownMeta}
+use Rattle.event.specs.declared.NumberStep.{NumberStep}
+use Rattle.event.specs.declared.NumberStep.the-variants.{Value, Unread}
+use Rattle.event.specs.declared.ByteStep.{ByteStep}
+use Rattle.event.specs.declared.ByteStep.the-variants.{Byte, Bad}
+use Rattle.event.specs.declared.FrameStep.{FrameStep}
+use Rattle.event.specs.declared.FrameStep.the-variants.{Found, Refused}
+use Rattle.event.specs.declared.EventStep.{EventStep}
+use Rattle.event.specs.declared.EventStep.the-variants.{Read, Stop}
+
+unfoldable pub numberStep : ℕ → Outcome ℕ → NumberStep
+numberStep n (ok v r) = Value v (n - length r)
+numberStep n (refused k p) = Unread k
+
+unfoldable pub byteStep : ℕ → Outcome ℕ → ByteStep
+byteStep n (ok v r) = Byte v (n - length r)
+byteStep n (refused k p) = Bad k
+
+-- a kind whose event ends before the place next: its data stand there, at next less their number
+unfoldable pub kindAt : ℕ → Kind → EventKind
+kindAt next (noteOff c k v) = NoteOff c k v
+kindAt next (noteOn c k v) = NoteOn c k v
+kindAt next (polyAftertouch c k v) = PolyAftertouch c k v
+kindAt next (control c k v) = Control c k v
+kindAt next (program c p) = Program c p
+kindAt next (channelAftertouch c v) = ChannelAftertouch c v
+kindAt next (pitchBend c v) = PitchBend c v
+kindAt next (systemExclusive d) = SystemExclusive (next - length d) (length d)
+kindAt next (systemExclusivePacket d) = SystemExclusivePacket (next - length d) (length d)
+kindAt next (sequenceNumber n) = SequenceNumber n
+kindAt next (text t d) = Text t (next - length d) (length d)
+kindAt next (channelPrefix n) = ChannelPrefix n
+kindAt next (midiPort n) = MidiPort n
+kindAt next endTrack = EndTrack
+kindAt next (tempo n) = Tempo n
+kindAt next (smpteOffset h m s f u) = SmpteOffset h m s f u
+kindAt next (timeSignature n d c b) = TimeSignature n d c b
+kindAt next (keySignature k m) = KeySignature (keyByte k) m
+kindAt next (sequencerSpecific d) = SequencerSpecific (next - length d) (length d)
+kindAt next (unknownMeta t d) = UnknownMeta t (next - length d) (length d)
+
+-- whether it is End_track
+abbrev pub endOf : EventKind → Bool
+endOf (NoteOff a b c) = false
+endOf (NoteOn a b c) = false
+endOf (PolyAftertouch a b c) = false
+endOf (Control a b c) = false
+endOf (Program a b) = false
+endOf (ChannelAftertouch a b) = false
+endOf (PitchBend a b) = false
+endOf (SystemExclusive a b) = false
+endOf (SystemExclusivePacket a b) = false
+endOf (SequenceNumber a) = false
+endOf (Text a b c) = false
+endOf (ChannelPrefix a) = false
+endOf (MidiPort a) = false
+endOf EndTrack = true
+endOf (Tempo a) = false
+endOf (SmpteOffset a b c d e) = false
+endOf (TimeSignature a b c d) = false
+endOf (KeySignature a b) = false
+endOf (SequencerSpecific a b) = false
+endOf (UnknownMeta a b c) = false
+
+-- an event after its delta: kind and fields, the place after it, the status in force after it
+unfoldable pub frameAt : ℕ → Frame → FrameStep
+frameAt next x = Found (kindAt next (kindIn x)) next (after x)
+
+unfoldable pub frameStep : ℕ → Outcome Frame → FrameStep
+frameStep n (ok x r) = frameAt (n - length r) x
+frameStep n (refused k p) = Refused k
+
+-- an event: its Time besides
+unfoldable pub eventStep : ℕ → Outcome Event → EventStep
+eventStep n (ok e r) = Read (record { 0 = e .time }) (kindAt (n - length r) (e .kind)) (n - length r) (after (frame (e .kind)))
+eventStep n (refused k p) = Stop k
+
+-- the len bytes of s from the place start on, or none where they are not all there
+unfoldable pub dataAt : List ℕ → ℕ → ℕ → List ℕ
+dataAt s start len = pick (leb start (length s)) (pick (leb len (length s - start)) (take len (drop start s)) []) []
