@@ -13,7 +13,7 @@ use Rattle.event.specs.Meta.{MetaKind, sequenceKind, textKind, prefixKin
 use Rattle.event.specs.Frame.{exclusive, after, keyByte}
 use Rattle.event.specs.Outcome.{ok, andThen, check}
 use Rattle.event.specs.Reader.{readVlq, readExclusive, lengthOk, valueOk, metaData, keyOf, metaOf, kindIn}
-use Rattle.event.specs.Step.{kindAt, frameAt, frameStep}
+use Rattle.event.specs.Step.{bytesFrom, kindAt, frameAt, frameStep}
 use Rattle.event.specs.declared.EventKind.the-variants.{SystemExclusive, SystemExclusivePacket, SequenceNumber, Text, ChannelPrefix, MidiPort, EndTrack, Tempo, SmpteOffset, TimeSignature, KeySignature, SequencerSpecific, UnknownMeta}
 use Rattle.event.specs.declared.FrameStep.{FrameStep}
 use Rattle.event.specs.declared.FrameStep.the-variants.{Found, Refused}
@@ -55,19 +55,15 @@ module _ (s : List ℕ) (t p n : ℕ) (d : List ℕ) (k : MetaKind) (fit : p + n
   unfolding metaData andThen check frameStep
   row-bad h = simp (data-at s p n fit, got, kind, h)
 
--- the first k bytes of a list
-abbrev firsts : ℕ → List ℕ → ℕ → List ℕ
-firsts zero l i = []
-firsts (suc k) l i = getD l i 0 ∷ firsts k l (suc i)
+from-tail : (k a : ℕ) (l : List ℕ) (i : ℕ) → bytesFrom k (a ∷ l) (suc i) ≡ bytesFrom k l i
+from-tail zero a l i = refl
+from-tail (suc k) a l i = ap (λ z. getD l i 0 ∷ z) (from-tail k a l (suc i))
 
-firsts-tail : (k : ℕ) (a : ℕ) (l : List ℕ) (i : ℕ) → firsts k (a ∷ l) (suc i) ≡ firsts k l i
-firsts-tail zero a l i = refl
-firsts-tail (suc k) a l i = ap (λ z. getD l i 0 ∷ z) (firsts-tail k a l (suc i))
-
-pub take-firsts : (k : ℕ) (l : List ℕ) → k ≤ length l → take k l ≡ firsts k l 0
-take-firsts zero l h = refl
-take-firsts (suc k) [] h = absurd (omega arith)
-take-firsts (suc k) (a ∷ l) h = ap (λ z. a ∷ z) (take-firsts k l (omega arith) ∙ sym (firsts-tail k a l 0))
+-- where they are there, they are the list's own first bytes
+pub take-from : (k : ℕ) (l : List ℕ) → k ≤ length l → take k l ≡ bytesFrom k l 0
+take-from zero l h = refl
+take-from (suc k) [] h = absurd (omega arith)
+take-from (suc k) (a ∷ l) h = ap (λ z. a ∷ z) (take-from k l (omega arith) ∙ sym (from-tail k a l 0))
 
 and-false : (b : Bool) → (b && false) ≡ false
 and-false true = refl
@@ -82,13 +78,12 @@ module _ (s : List ℕ) (p : ℕ) where
   abbrev M : ℕ → ℕ → FrameStep
   M t n = frameStep (length s) (metaData t n (drop p s))
 
-  got : (n : ℕ) → p + n ≤ length s → take n (drop p s) ≡ firsts n (drop p s) 0
-  got n h = let fit : n ≤ length (drop p s) = simp length-drop (omega arith) in take-firsts n (drop p s) fit
+  got : (n : ℕ) → p + n ≤ length s → take n (drop p s) ≡ bytesFrom n (drop p s) 0
+  got n h = let fit : n ≤ length (drop p s) = simp length-drop (omega arith) in take-from n (drop p s) fit
 
-  pub row-sequence : (a b : ℕ) → p + 2 ≤ length s → a ≡ B 0 → b ≡ B 1 → Found (SequenceNumber (a * 256 + b)) (p + 2) 0 ≡ M 0 2
-  unfolding kindOf valueOk kindAt metaOf number horner
-  row-sequence a b h ea eb =
-      ap (λ z. Found (SequenceNumber z) (p + 2) 0) (omega arith) ∙ row-ok s 0 p 2 (B 0 ∷ B 1 ∷ []) sequenceKind h (got 2 h) refl refl
+  pub row-sequence : (v : ℕ) → p + 2 ≤ length s → v ≡ number (bytesFrom 2 (drop p s) 0) → Found (SequenceNumber v) (p + 2) 0 ≡ M 0 2
+  unfolding kindOf valueOk kindAt metaOf
+  row-sequence v h e = ap (λ z. Found (SequenceNumber z) (p + 2) 0) e ∙ row-ok s 0 p 2 (B 0 ∷ B 1 ∷ []) sequenceKind h (got 2 h) refl refl
 
   pub row-prefix : (a : ℕ) → p + 1 ≤ length s → a ≡ B 0 → Found (ChannelPrefix a) (p + 1) 0 ≡ M 0x20 1
   unfolding kindOf valueOk kindAt metaOf number horner

@@ -1,9 +1,9 @@
 -- What the code's enums say, by document 01's numbers and values: the answer of each reader on the rest of a slice of n bytes,
 -- with places in that slice. The place after what was read is n less what is left.
-use Prim.Native.Nat.{ℕ, _-_}
+use Prim.Native.Nat.{ℕ, zero, suc, _-_}
 use mathlib.Core.Bool.{Bool, true, false}
-use mathlib.Core.List.{List, []}
-use lib.ListN.{length, take, drop}
+use mathlib.Core.List.{List, [], _∷_}
+use lib.ListN.{length, getD, take, drop}
 use lib.Dec.{leb}
 use Rattle.event.specs.Choice.{pick}
 use Rattle.event.specs.Outcome.{Outcome, ok, refused}
@@ -21,6 +21,11 @@ use Rattle.event.specs.declared.FrameStep.{FrameStep}
 use Rattle.event.specs.declared.FrameStep.the-variants.{Found, Refused}
 use Rattle.event.specs.declared.EventStep.{EventStep}
 use Rattle.event.specs.declared.EventStep.the-variants.{Read, Stop}
+
+-- the k bytes of l from the place i on; 0 stands for a byte past its end
+abbrev pub bytesFrom : ℕ → List ℕ → ℕ → List ℕ
+bytesFrom zero l i = []
+bytesFrom (suc k) l i = getD l i 0 ∷ bytesFrom k l (suc i)
 
 unfoldable pub numberStep : ℕ → Outcome ℕ → NumberStep
 numberStep n (ok v r) = Value v (n - length r)

@@ -12,6 +12,7 @@ use super::FrameStep;
 use super::NumberStep;
 use super::number::byte_at;
 use super::number::read_number;
+use super::number::two_byte_number;
 
 // An event that leaves no status in force.
 fn silent(kind: EventKind, next: usize) -> FrameStep
@@ -64,7 +65,7 @@ fn sequence_number(body: &[u8], start: usize) -> FrameStep
     requires { ⌜ start + 2 ≤ length (now body) ⌝ }
     ensures { λ r. ⌜ r ≡ frameStep (length (now (body .entry))) (metaData 0 2 (drop start (now (body .entry)))) ⌝ }
 {
-    let number = byte_at(body, start, 0) as u32 * 256 + byte_at(body, start, 1) as u32;
+    let number = two_byte_number(body, start);
     silent(EventKind::SequenceNumber { number }, start + 2)
 }
 

@@ -1,8 +1,9 @@
-// Variable-length numbers, and bytes at a place of a track's body.
+// Numbers and bytes at a place of a slice.
 ghost use mathlib.Core.Path.{_≡_};
 ghost use lib.ListN.{length, drop, getD};
+ghost use Rattle.event.specs.Bytes.{number};
 ghost use Rattle.event.specs.Reader.{readVlq};
-ghost use Rattle.event.specs.Step.{numberStep, dataAt};
+ghost use Rattle.event.specs.Step.{bytesFrom, numberStep, dataAt};
 use super::NumberStep;
 
 pub fn read_number(body: &[u8], at: usize) -> NumberStep
@@ -40,6 +41,24 @@ pub fn byte_at(body: &[u8], at: usize, k: usize) -> u8
         return 0;
     }
     0
+}
+
+// The number of two bytes at a place, high byte first; a byte past the end counts as 0.
+pub fn two_byte_number(body: &[u8], at: usize) -> u32
+    ensures { λ r. ⌜ r ≡ number (bytesFrom 2 (drop at (now (body .entry))) 0) ⌝ }
+{
+    byte_at(body, at, 0) as u32 * 256 + byte_at(body, at, 1) as u32
+}
+
+// The number of four bytes at a place, high byte first; a byte past the end counts as 0.
+pub fn four_byte_number(body: &[u8], at: usize) -> u32
+    ensures { λ r. ⌜ r ≡ number (bytesFrom 4 (drop at (now (body .entry))) 0) ⌝ }
+{
+    let a = byte_at(body, at, 0) as u32;
+    let b = byte_at(body, at, 1) as u32;
+    let c = byte_at(body, at, 2) as u32;
+    let d = byte_at(body, at, 3) as u32;
+    ((a * 256 + b) * 256 + c) * 256 + d
 }
 
 // The data bytes of an event: so many of the body's own bytes from a place on, or none where they

@@ -1,5 +1,5 @@
 -- Demand 3 of the definitions: accepted exactly where laid out, with that piece; and one layout has one piece.
-use mathlib.Core.Path.{_≡_, refl, sym, ap, _∙_}
+use mathlib.Core.Path.{_≡_, refl, sym, ap, subst, _∙_}
 use Prim.Native.Nat.{ℕ, _≤_}
 use mathlib.Core.List.{List, []}
 use mathlib.Core.Logic.{_↔_}
@@ -16,6 +16,7 @@ use Rattle.smf.specs.Layout.{LaidOut}
 use Rattle.smf.specs.Reader.{readPiece, fileLimit, readFile}
 use Rattle.smf.specs.Answer.{verdict}
 use Rattle.smf.specs.Demand3.{Demand3}
+use Rattle.smf.specs.declared.Answer.{Answer}
 use Rattle.smf.proofs.FileLaws.{piece-read, piece-sound}
 use Rattle.smf.proofs.RefusalLaws.{file-fair}
 
@@ -57,3 +58,7 @@ demand f bs =
       accepted = (λ z. zero-laid f (readFile f) bs refl (file-fair f bs) z, λ (p, l, k). ap (λ m. verdict m .number) (demand-3 f bs p .1 (l, k)));
       piece = demand-3 f bs;
     }
+
+-- both parts of what check promises
+pub judged : (f : List ℕ) (v : Answer) → Bytes f → v ≡ verdict (readFile f) → (v ≡ verdict (readFile f)) × Demand3 f (v .number)
+judged f v bs e = (e, subst (λ (w : Answer). Demand3 f (w .number)) (sym e) (demand f bs))

@@ -8,7 +8,7 @@ use lib.ListN.{length, take, drop, length-append, take-append-drop}
 use lib.Seq.{take-append-seam, drop-append-seam, length-take-le}
 use lib.Dec.{leb, eqb}
 use borrow.Author.Tests.{leb-true, le-leb, eqb-true, eqb-false, eq-eqb, ne-eqb, not-true}
-use Rattle.event.specs.Bytes.{Bytes, bigEndian}
+use Rattle.event.specs.Bytes.{Bytes, bytesOnto, bigEndian}
 use Rattle.event.specs.Event.{Event}
 use Rattle.event.specs.Frame.{noStatus}
 use Rattle.event.specs.Spelling.{Spelling}
@@ -20,7 +20,7 @@ use Rattle.event.proofs.BytesLaws.{bytes-left, bytes-right, length-bigEndian, n
 use Rattle.smf.specs.Piece.{Division, Piece, LawfulEvents, LawfulTracks, LawfulDivision}
 use Rattle.smf.specs.Spelling.{PieceSpelling, PermittedEvents, PermittedTracks, PermittedPiece}
 use Rattle.smf.specs.Layout.{headerTag, trackTag, layEvents, layTrack, layTracks, layDivision, layHeader, layPiece, ShortTracks, HasLayout, LaidOut}
-use Rattle.smf.specs.Reader.{readAll, readTrack, readTracks, Header, countOk, divisionOk, readHeader, noMore, readPiece}
+use Rattle.smf.specs.Reader.{readAll, readChunk, readTrack, readTracks, Header, countOk, divisionOk, readHeader, noMore, readPiece}
 use Rattle.smf.proofs.TrackLaws.{all-read, events-sound}
 
 -- ---- a track's chunk
@@ -29,29 +29,63 @@ use Rattle.smf.proofs.TrackLaws.{all-read, events-sound}
 eight : (a b : ℕ) (l : List ℕ) → 8 ≤ length (bigEndian 4 a ++ (bigEndian 4 b ++ l))
 eight a b l = simp (length-append, length-bigEndian) (omega arith)
 
+pub chunk-read : (at : ℕ) (body r : List ℕ) → length body ≤ 4294967295
+    → readChunk at (bigEndian 4 trackTag ++ (bigEndian 4 (length body) ++ body) ++ r) ≡ ok body r
+unfolding readChunk
+chunk-read at body r short =
+    let n : ℕ = length body in
+    let split : bigEndian 4 trackTag ++ (bigEndian 4 n ++ body) ++ r ≡ bigEndian 4 trackTag ++ (bigEndian 4 n ++ (body ++ r)) = simp append-assoc in
+    rw split
+    (check-eq 2 at _ (le-leb 8 _ (eight trackTag n (body ++ r)))
+    ∙ andThen-eq _ (number-read 4 trackTag (bigEndian 4 n ++ (body ++ r)) (omega arith))
+    ∙ check-eq 4 at _ refl
+    ∙ andThen-eq _ (number-read 4 n (body ++ r) (omega arith))
+    ∙ check-eq 2 at _ (le-leb n (length (body ++ r)) (omega (arith, length-append body r)))
+    ∙ simp (take-append-seam, drop-append-seam))
+
+-- a tag, a length, that many bytes, and the rest
+chunk-bytes : (l l1 l2 : List ℕ) (tag n : ℕ) → l ≡ bigEndian 4 tag ++ l1 → tag ≡ trackTag → l1 ≡ bigEndian 4 n ++ l2 → length (take n l2) ≡ n
+    → l ≡ bigEndian 4 trackTag ++ (bigEndian 4 (length (take n l2)) ++ take n l2) ++ drop n l2
+chunk-bytes l l1 l2 tag n h ht h1 size =
+    let s : l2 ≡ take n l2 ++ drop n l2 = sym (take-append-drop n l2) in
+    let a : bigEndian 4 trackTag ++ (bigEndian 4 n ++ take n l2) ++ drop n l2 ≡ bigEndian 4 trackTag ++ (bigEndian 4 n ++ (take n l2 ++ drop n l2)) = simp append-assoc in
+    rw size cc
+
+pub record ChunkLaid (l body r : List ℕ) : Type 0 where
+  pub short : length body ≤ 4294967295
+  pub bytes : l ≡ bigEndian 4 trackTag ++ (bigEndian 4 (length body) ++ body) ++ r
+  pub inside : Bytes body
+  pub after : Bytes r
+
+pub chunk-sound : (at : ℕ) (l body r : List ℕ) → Bytes l → readChunk at l ≡ ok body r → ChunkLaid l body r
+unfolding readChunk
+chunk-sound at l body r bs e =
+    let (c0, e0) = check-ok _ 2 at _ body r e in
+    andThen-ok (readNumber 4 l) _ body r e0 (λ tag l1 qt e1.
+    let (c1, e2) = check-ok _ 4 at _ body r e1 in
+    let ht = number-sound 4 l tag l1 bs qt in
+    andThen-ok (readNumber 4 l1) _ body r e2 (λ n l2 qn e3.
+    let (c2, e4) = check-ok _ 2 at _ body r e3 in
+    let hn = number-sound 4 l1 n l2 (ht .after) qn in
+    ok-same (take n l2) body (drop n l2) r e4 (λ p dr.
+    let both : Bytes (take n l2 ++ drop n l2) = rw (take-append-drop n l2) (hn .after) in
+    let size : length (take n l2) ≡ n = length-take-le n l2 (leb-true n (length l2) c2) in
+    let small : n < 4294967296 = hn .fits in
+    rw (← p, ← dr)
+    (record {
+      short = omega arith;
+      bytes = chunk-bytes l l1 l2 tag n (ht .bytes) (eqb-true tag trackTag c1) (hn .bytes) size;
+      inside = bytes-left (take n l2) (drop n l2) both;
+      after = bytes-right (take n l2) (drop n l2) both;
+    }))))
+
+-- ---- a track
+
 pub track-read : (at : ℕ) (es : List Event) (ss : List Spelling) (r : List ℕ) → LawfulEvents 0 es → PermittedEvents 0 noStatus es ss
     → length (layEvents 0 es ss) ≤ 4294967295 → readTrack at (layTrack es ss ++ r) ≡ ok es r
 unfolding readTrack layTrack
 track-read at es ss r lawful permitted short =
-    let ev : List ℕ = layEvents 0 es ss in
-    let n : ℕ = length (layEvents 0 es ss) in
-    let split : bigEndian 4 trackTag ++ (bigEndian 4 n ++ ev) ++ r ≡ bigEndian 4 trackTag ++ (bigEndian 4 n ++ (ev ++ r)) = simp append-assoc in
-    rw split
-    (check-eq 2 at _ (le-leb 8 _ (eight trackTag n (ev ++ r)))
-    ∙ andThen-eq _ (number-read 4 trackTag (bigEndian 4 n ++ (ev ++ r)) (omega arith))
-    ∙ check-eq 4 at _ refl
-    ∙ andThen-eq _ (number-read 4 n (ev ++ r) (omega arith))
-    ∙ check-eq 2 at _ (le-leb n (length (ev ++ r)) (omega (arith, length-append ev r)))
-    ∙ andThen-eq _ (ap (readAll (at + 8) 0 noStatus) (take-append-seam ev r) ∙ all-read (at + 8) 0 noStatus es ss lawful permitted)
-    ∙ ap (ok es) (drop-append-seam ev r))
-
--- a tag, a length, that many bytes ev, and the rest
-chunk-bytes : (l l1 l2 ev : List ℕ) (tag n : ℕ) → l ≡ bigEndian 4 tag ++ l1 → tag ≡ trackTag → l1 ≡ bigEndian 4 n ++ l2 → take n l2 ≡ ev → length ev ≡ n
-    → l ≡ bigEndian 4 trackTag ++ (bigEndian 4 (length ev) ++ ev) ++ drop n l2
-chunk-bytes l l1 l2 ev tag n h ht h1 te size =
-    let s : l2 ≡ ev ++ drop n l2 = sym (take-append-drop n l2) ∙ ap (λ z. z ++ drop n l2) te in
-    let a : bigEndian 4 trackTag ++ (bigEndian 4 n ++ ev) ++ drop n l2 ≡ bigEndian 4 trackTag ++ (bigEndian 4 n ++ (ev ++ drop n l2)) = simp append-assoc in
-    rw size cc
+    andThen-eq _ (chunk-read at (layEvents 0 es ss) r short) ∙ andThen-eq _ (all-read (at + 8) 0 noStatus es ss lawful permitted)
 
 pub record TrackLaid (l : List ℕ) (es : List Event) (r : List ℕ) : Type 0 where
   pub spelling : List Spelling
@@ -64,29 +98,20 @@ pub record TrackLaid (l : List ℕ) (es : List Event) (r : List ℕ) : Type 0 wh
 pub track-sound : (at : ℕ) (l : List ℕ) (es : List Event) (r : List ℕ) → Bytes l → readTrack at l ≡ ok es r → TrackLaid l es r
 unfolding readTrack readAll layTrack
 track-sound at l es r bs e =
-    let (c0, e0) = check-ok _ 2 at _ es r e in
-    andThen-ok (readNumber 4 l) _ es r e0 (λ tag l1 qt e1.
-    let (c1, e2) = check-ok _ 4 at _ es r e1 in
-    let ht = number-sound 4 l tag l1 bs qt in
-    andThen-ok (readNumber 4 l1) _ es r e2 (λ n l2 qn e3.
-    let (c2, e4) = check-ok _ 2 at _ es r e3 in
-    let hn = number-sound 4 l1 n l2 (ht .after) qn in
-    andThen-ok (readAll (at + 8) 0 noStatus (take n l2)) _ es r e4 (λ fs q qe e5.
-    ok-same fs es (drop n l2) r e5 (λ p dr.
-    let fit : n ≤ length l2 = leb-true n (length l2) c2 in
-    let both : Bytes (take n l2 ++ drop n l2) = rw (take-append-drop n l2) (hn .after) in
-    let laid = events-sound (suc (length (take n l2))) (at + 8) 0 noStatus (take n l2) fs q (bytes-left (take n l2) (drop n l2) both) qe in
-    let size : length (layEvents 0 fs (laid .spelling)) ≡ n = rw (← (laid .bytes)) (length-take-le n l2 fit) in
-    let small : n < 4294967296 = hn .fits in
-    rw (← p, ← dr)
+    andThen-ok (readChunk at l) _ es r e (λ body m qc e1.
+    andThen-ok (readAll (at + 8) 0 noStatus body) _ es r e1 (λ fs q qe e2.
+    ok-same fs es m r e2 (λ p mr.
+    let chunk = chunk-sound at l body m bs qc in
+    let laid = events-sound (suc (length body)) (at + 8) 0 noStatus body fs q (chunk .inside) qe in
+    rw (← p, ← mr)
     (record {
       spelling = laid .spelling;
       lawful = laid .lawful;
       permitted = laid .permitted;
-      short = omega arith;
-      bytes = chunk-bytes l l1 l2 (layEvents 0 fs (laid .spelling)) tag n (ht .bytes) (eqb-true tag trackTag c1) (hn .bytes) (laid .bytes) size;
-      after = bytes-right (take n l2) (drop n l2) both;
-    })))))
+      short = rw (← (laid .bytes)) (chunk .short);
+      bytes = rw (← (laid .bytes)) (chunk .bytes);
+      after = chunk .after;
+    }))))
 
 -- ---- the tracks
 
@@ -160,6 +185,10 @@ pub record LawfulHeader (h : Header) : Type 0 where
 pub header-size : (format count : ℕ) (d : Division) (l : List ℕ) → length (layHeader format count d l) ≡ 14 + length l
 unfolding layHeader layDivision
 header-size format count d l = simp (length-append, length-bigEndian) (omega arith)
+
+pub header-rest : (format count : ℕ) (d : Division) (l : List ℕ) → drop 14 (layHeader format count d l) ≡ l
+unfolding layHeader layDivision bigEndian bytesOnto
+header-rest format count d l = refl
 
 header-long : (format count : ℕ) (d : Division) (l : List ℕ) → 14 ≤ length (layHeader format count d l)
 header-long format count d l = omega (arith, header-size format count d l)

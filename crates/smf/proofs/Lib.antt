@@ -5,3 +5,7 @@ pub mod MannerLaws
 pub mod Example
 pub mod RefusalLaws
 pub mod Slips
+pub mod HeaderLaws
+pub mod WalkLaws
+pub mod ChunkLaws
+pub mod VerdictLaws

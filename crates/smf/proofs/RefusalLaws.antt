@@ -1,25 +1,27 @@
 -- Every refusal of a file has a number that is not 0, and its place lies in the file.
-use mathlib.Core.Path.{_≡_, ap, _∙_}
+use mathlib.Core.Path.{_≡_, refl, ap, _∙_}
 use Prim.Native.Nat.{ℕ, zero, suc, _+_, _-_, _≤_}
 use mathlib.Core.Bool.{Bool, true, false}
-use mathlib.Core.List.{List, [], _∷_, _++_}
+use mathlib.Core.List.{List, [], _∷_}
 use native.Mathlib.Omega.{arith}
-use lib.ListN.{length, take, drop, length-append, take-append-drop}
-use lib.Seq.{length-take-le}
+use lib.ListN.{length, length-append}
+use lib.Dec.{leb}
 use borrow.Author.Tests.{leb-true}
-use Rattle.event.specs.Bytes.{Bytes, bigEndian}
+use Rattle.event.specs.Bytes.{Bytes}
 use Rattle.event.specs.Event.{Event, isEnd}
 use Rattle.event.specs.Frame.{frame, after, noStatus}
-use Rattle.event.specs.Outcome.{Outcome}
+use Rattle.event.specs.Outcome.{Outcome, ok, refused, check}
 use Rattle.event.specs.Reader.{readEvent}
+use Rattle.event.proofs.ChoiceLaws.{by-test}
 use Rattle.event.proofs.OutcomeLaws.{placed-ok}
-use Rattle.event.proofs.BytesLaws.{bytes-left, length-bigEndian, number-sound}
+use Rattle.event.proofs.BytesLaws.{length-bigEndian}
 use Rattle.event.proofs.EventLaws.{event-shorter}
 use Rattle.event.proofs.RefusalLaws.{Fair, then-fair, check-fair, placed-fair, number-fair, event-fair}
 use Rattle.smf.specs.Piece.{Piece}
 use Rattle.smf.specs.Layout.{layTrack}
-use Rattle.smf.specs.Reader.{ended, goOn, readEvents, readAll, readTrack, readTracks, readHeader, noMore, readPiece, readFile}
-use Rattle.smf.proofs.FileLaws.{track-sound, header-sound, header-size}
+use Rattle.smf.specs.Reader.{ended, goOn, readEvents, readAll, readChunk, readTrack, readTracks, readHeader, noMore, readPiece, fileLimit, readFile}
+use Rattle.smf.specs.Answer.{verdict}
+use Rattle.smf.proofs.FileLaws.{ChunkLaid, chunk-sound, track-sound, header-sound, header-size}
 
 go-fair : (m : ℕ) (b : Bool) (at : ℕ) (e : Event) (r : List ℕ) (k : Outcome (List Event)) → at ≤ m → Fair m k → Fair m (goOn b at e r k)
 unfolding goOn ended
@@ -36,26 +38,25 @@ events-fair m (suc n) at prev f l bs h =
     go-fair m (isEnd (e .kind)) (at + (length l - length r)) e r _ (omega arith)
     (events-fair m n (at + (length l - length r)) (e .time) (after (frame (e .kind))) r br (omega arith)))
 
--- four bytes, and what follows them
-four-left : (l : List ℕ) (v : ℕ) (r : List ℕ) → l ≡ bigEndian 4 v ++ r → length l ≡ 4 + length r
-four-left l v r e = ap length e ∙ length-append (bigEndian 4 v) r ∙ ap (λ n. n + length r) (length-bigEndian 4 v)
+chunk-fair : (m at : ℕ) (l : List ℕ) → at ≤ m → Fair m (readChunk at l)
+unfolding readChunk
+chunk-fair m at l h =
+    check-fair m _ 2 at _ (omega arith) (λ c0.
+    then-fair m _ _ (number-fair m 4 l) (λ tag l1 q1.
+    check-fair m _ 4 at _ (omega arith) (λ c1.
+    then-fair m _ _ (number-fair m 4 l1) (λ n l2 q2. check-fair m _ 2 at _ (omega arith) (λ c2. tt)))))
+
+-- a chunk's bytes are eight, its body and the rest
+pub chunk-size : (l body r : List ℕ) → ChunkLaid l body r → length l ≡ 8 + length body + length r
+chunk-size l body r laid = ap length (laid .bytes) ∙ simp (length-append, length-bigEndian) (omega arith)
 
 track-fair : (m at : ℕ) (l : List ℕ) → Bytes l → at + length l ≤ m → Fair m (readTrack at l)
 unfolding readTrack readAll
 track-fair m at l bs h =
-    check-fair m _ 2 at _ (omega arith) (λ c0.
-    then-fair m _ _ (number-fair m 4 l) (λ tag l1 q1.
-    let h1 = number-sound 4 l tag l1 bs q1 in
-    let s1 = four-left l tag l1 (h1 .bytes) in
-    check-fair m _ 4 at _ (omega arith) (λ c1.
-    then-fair m _ _ (number-fair m 4 l1) (λ n l2 q2.
-    let h2 = number-sound 4 l1 n l2 (h1 .after) q2 in
-    let s2 = four-left l1 n l2 (h2 .bytes) in
-    check-fair m _ 2 at _ (omega arith) (λ c2.
-    let both : Bytes (take n l2 ++ drop n l2) = rw (take-append-drop n l2) (h2 .after) in
-    let few : n ≤ length l2 = leb-true n (length l2) c2 in
-    let fit : length (take n l2) ≡ n = length-take-le n l2 few in
-    then-fair m _ _ (events-fair m (suc (length (take n l2))) (at + 8) 0 noStatus (take n l2) (bytes-left (take n l2) (drop n l2) both) (omega arith)) (λ es r e. tt))))))
+    then-fair m _ _ (chunk-fair m at l (omega arith)) (λ body r q.
+    let laid = chunk-sound at l body r bs q in
+    let size = chunk-size l body r laid in
+    then-fair m _ _ (events-fair m (suc (length body)) (at + 8) 0 noStatus body (laid .inside) (omega arith)) (λ es z e. tt))
 
 tracks-fair : (m n at : ℕ) (l : List ℕ) → Bytes l → at + length l ≤ m → Fair m (readTracks n at l)
 unfolding readTracks
@@ -91,3 +92,28 @@ file-fair f bs =
     let laid = header-sound f h l bs q in
     let size : length f ≡ 14 + length l = ap length (laid .bytes) ∙ header-size (h .format) (h .count) (h .division) l in
     then-fair (length f) _ _ (tracks-fair (length f) (h .count) (length f - length l) l (laid .after) (omega arith)) (λ ts r e. more-fair (length f) _ _ r (omega arith))))
+
+-- ---- what packing a verdict needs
+
+place-fair : (m : ℕ) (x : Outcome Piece) → Fair m x → verdict x .place ≤ m
+unfolding verdict
+place-fair m (ok p r) h = omega arith
+place-fair m (refused n q) h = h .1
+
+long-place : (f : List ℕ) → leb (length f) fileLimit ≡ false → verdict (readFile f) .place ≤ fileLimit
+unfolding readFile check verdict
+long-place f e = rw e (omega arith)
+
+pub place-small : (f : List ℕ) → Bytes f → verdict (readFile f) .place ≤ fileLimit
+place-small f bs =
+    by-test (leb (length f) fileLimit)
+    (λ e. let h = leb-true (length f) fileLimit e in omega (arith, place-fair (length f) (readFile f) (file-fair f bs)))
+    (λ e. long-place f e)
+
+none-written : (x : Outcome Piece) → verdict x .length ≡ 0
+unfolding verdict
+none-written (ok p r) = refl
+none-written (refused n q) = refl
+
+pub length-none : (f : List ℕ) → verdict (readFile f) .length ≡ 0
+length-none f = none-written (readFile f)

@@ -3,6 +3,7 @@ pub mod Spelling
 pub mod Layout
 pub mod Manner
 pub mod Reader
+pub mod Step
 pub mod Answer
 pub mod Example
 pub mod Demand3

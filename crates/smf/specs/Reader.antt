@@ -38,14 +38,21 @@ readAll at prev force l = readEvents (suc (length l)) at prev force l
 
 -- ---- a track's chunk at the place `at`: "2 (under 8), 4, 2 (length)"
 
-unfoldable pub readTrack : ℕ → List ℕ → Outcome (List Event)
-readTrack at l =
+-- the bytes of its events, and what follows the chunk
+unfoldable pub readChunk : ℕ → List ℕ → Outcome (List ℕ)
+readChunk at l =
     check (leb 8 (length l)) 2 at
     (andThen (readNumber 4 l) (λ tag l1.
     check (eqb tag trackTag) 4 at
     (andThen (readNumber 4 l1) (λ n l2.
     check (leb n (length l2)) 2 at
-    (andThen (readAll (at + 8) 0 noStatus (take n l2)) (λ es r. ok es (drop n l2)))))))
+    (ok (take n l2) (drop n l2))))))
+
+-- its events: they begin 8 bytes on
+unfoldable pub readTrack : ℕ → List ℕ → Outcome (List Event)
+readTrack at l =
+    andThen (readChunk at l) (λ body r.
+    andThen (readAll (at + 8) 0 noStatus body) (λ es q. ok es r))
 
 -- "As many tracks as counted"
 unfoldable pub readTracks : ℕ → ℕ → List ℕ → Outcome (List (List Event))

@@ -1,6 +1,11 @@
-// Whole files: header, tracks, check.
+// Whole files: the header, the tracks, checking, and listing the tracks.
 ghost use mathlib.Core.Path.{_≡_};
 ghost use Rattle.smf.specs.Answer.{success, refusal};
+
+pub mod header; // header.rt: the header
+pub mod track; // track.rt: a track's chunk and its events
+pub mod check; // check.rt: checking a file
+//pub mod list; // list.rt: listing the tracks
 
 // What every operation answers: a refusal's number and place, or 0, 0 and the length written.
 pub struct Answer {
@@ -29,4 +34,53 @@ impl Answer {
             length: 0,
         }
     }
+}
+
+// Pulses per quarter note.
+pub struct Division(pub u32);
+
+// What reading the header answers: its fields and the place after it, or a refusal.
+pub enum HeaderStep {
+    Fields {
+        format: u32,
+        count: u32,
+        division: Division,
+        next: usize,
+    },
+    BadHeader {
+        number: u8,
+        place: usize,
+    },
+}
+
+// What reading a track's chunk answers: where its events begin and where the chunk ends.
+pub enum ChunkStep {
+    Body { start: usize, end: usize },
+    BadChunk { number: u8, place: usize },
+}
+
+// What walking a track's events answers: the Time of its End_track and the number of its events,
+// End_track included.
+pub enum WalkStep {
+    Whole { time: event::Time, events: u32 },
+    Fault { number: u8, place: usize },
+}
+
+// What reading a track answers: the same, and the place after its chunk.
+pub enum TrackStep {
+    Track {
+        time: event::Time,
+        events: u32,
+        next: usize,
+    },
+    BadTrack {
+        number: u8,
+        place: usize,
+    },
+}
+
+// What reading all the tracks answers: the place after the last.
+pub enum TracksStep {
+    Next(usize),
+    BadTracks { number: u8, place: usize },
 }

@@ -1,0 +1,24 @@
+// The C interface.
+ghost use mathlib.Core.Path.{_≡_};
+ghost use Prim.Native.Nat.{_<_};
+ghost use Rattle.smf.specs.Reader.{readFile};
+ghost use Rattle.smf.specs.Answer.{verdict};
+ghost use Rattle.noferkash.specs.Packed.{packed};
+
+// The answer as one number of 64 bits.
+fn pack(a: smf::Answer) -> u64
+    requires { ⌜ a .place < 268435456 ⌝ ∗ ⌜ a .length < 268435456 ⌝ }
+    ensures { λ r. ⌜ r ≡ packed a ⌝ }
+{
+    let number = a.number as u64;
+    let place = a.place as u64;
+    let length = a.length as u64;
+    number * 72057594037927936 + place * 268435456 + length
+}
+
+#[no_mangle]
+pub extern "C" fn noferkash_check(file: &[u8]) -> u64
+    ensures { λ r. ⌜ r ≡ packed (verdict (readFile (now (file .entry)))) ⌝ }
+{
+    pack(smf::check::check(file))
+}

@@ -1,0 +1,72 @@
+// The header of a file.
+ghost use mathlib.Core.Path.{_≡_};
+ghost use lib.ListN.{length};
+ghost use Rattle.smf.specs.Reader.{countOk, divisionOk, readHeader};
+ghost use Rattle.smf.specs.Step.{headerStep};
+ghost use Rattle.smf.specs.declared.HeaderStep.the-variants.{BadHeader};
+use super::Division;
+use super::HeaderStep;
+use event::number::four_byte_number;
+use event::number::two_byte_number;
+
+fn count_ok(format: u32, count: u32) -> bool
+    ensures { λ r. ⌜ r ≡ countOk format count ⌝ }
+{
+    if count == 0 {
+        return false;
+    }
+    if format == 0 {
+        return count == 1;
+    }
+    true
+}
+
+fn division_ok(division: u32) -> bool
+    ensures { λ r. ⌜ r ≡ divisionOk division ⌝ }
+{
+    if division == 0 {
+        return false;
+    }
+    division <= 32767
+}
+
+fn bad(place: usize) -> HeaderStep
+    ensures { λ r. ⌜ r ≡ BadHeader 3 place ⌝ }
+{
+    HeaderStep::BadHeader { number: 3, place }
+}
+
+pub fn read_header(file: &[u8]) -> HeaderStep
+    ensures { λ r. ⌜ r ≡ headerStep (length (now (file .entry))) (readHeader (now (file .entry))) ⌝ }
+{
+    if file.len() < 14 {
+        return HeaderStep::BadHeader {
+            number: 2,
+            place: 0,
+        };
+    }
+    if four_byte_number(file, 0) != 0x4D546864 {
+        return bad(0);
+    }
+    if four_byte_number(file, 4) != 6 {
+        return bad(4);
+    }
+    let format = two_byte_number(file, 8);
+    if 2 < format {
+        return bad(8);
+    }
+    let count = two_byte_number(file, 10);
+    if count_ok(format, count) {
+        let division = two_byte_number(file, 12);
+        if division_ok(division) {
+            return HeaderStep::Fields {
+                format,
+                count,
+                division: Division(division),
+                next: 14,
+            };
+        }
+        return bad(12);
+    }
+    bad(10)
+}

@@ -1,0 +1,99 @@
+//! Seeded inputs, the same for the same seed on every machine.
+//!
+//! - `file_case(seed)`: a file, good, damaged or random; aimed so that many
+//!   seeds together meet every refusal number 1..13.
+//! - `text_case(seed)`: a text likewise, for 21..29; `manner(rng)` gives 30.
+//! - `room(rng, needed)`: a size of lent room, now and then too small (14).
+//! - `piece(rng)`, `spelling(rng, piece)`: good pieces and permitted spellings.
+//! - `varied_text(rng, piece)`: a text of the piece, spelled loosely.
+//! - `benchmark_file()`: one file of nearly 1 MiB.
+
+mod benchmark;
+mod damaged_file;
+mod damaged_text;
+mod field_damage;
+mod large;
+mod pieces;
+mod raw_file;
+mod rng;
+mod text_lines;
+
+pub use benchmark::benchmark_file;
+pub use pieces::{kind_of, piece, spelling, KINDS};
+pub use rng::Rng;
+pub use text_lines::{plain_text, varied_text};
+
+use crate::spelling::Manner;
+use crate::write_file::{layout, write_file};
+
+/// One case in this many is a large one: near a limit, so slow to make.
+const LARGE: u64 = 400;
+
+/// A file for this seed.
+pub fn file_case(seed: u64) -> Vec<u8> {
+    let rng = &mut Rng::new(seed);
+    if rng.one_in(LARGE) {
+        return large::file(rng);
+    }
+    match rng.below(20) {
+        0..=7 => good_file(rng),
+        8..=15 => damaged_file::aimed(rng),
+        16 => damaged_file::mutated(rng, damaged_file::aimed),
+        17..=18 => damaged_file::mutated(rng, good_file),
+        _ => damaged_file::random_bytes(rng),
+    }
+}
+
+/// A text for this seed.
+pub fn text_case(seed: u64) -> Vec<u8> {
+    // Another stream than the file of the same seed.
+    let rng = &mut Rng::new(!seed);
+    if rng.one_in(LARGE) {
+        return large::text(rng);
+    }
+    match rng.below(20) {
+        0..=2 => plain_text(&piece(rng)),
+        3..=7 => good_text(rng),
+        8..=15 => damaged_text::aimed(rng),
+        16 => damaged_text::mutated(rng, damaged_text::aimed),
+        17..=18 => damaged_text::mutated(rng, good_text),
+        _ => damaged_text::random_bytes(rng),
+    }
+}
+
+/// A file that is accepted: a random piece in a random permitted spelling.
+pub fn good_file(rng: &mut Rng) -> Vec<u8> {
+    let piece = piece(rng);
+    let made = match rng.below(4) {
+        0 => write_file(&piece, Manner::Short),
+        1 => write_file(&piece, Manner::Full),
+        _ => layout(&piece, &spelling(rng, &piece)),
+    };
+    made.expect("a generated piece has a layout")
+}
+
+/// A text that is accepted, loosely spelled.
+pub fn good_text(rng: &mut Rng) -> Vec<u8> {
+    let piece = piece(rng);
+    varied_text(rng, &piece)
+}
+
+/// A manner, one time in eight neither 0 nor 1.
+pub fn manner(rng: &mut Rng) -> u32 {
+    if rng.one_in(8) {
+        rng.pick(&[2, 3, 255, 256, 257, 1 << 16, u32::MAX])
+    } else {
+        rng.below(2) as u32
+    }
+}
+
+/// A size of room for something of `needed` bytes: exact, larger or too small.
+pub fn room(rng: &mut Rng, needed: usize) -> usize {
+    match rng.below(8) {
+        0 => 0,
+        1 => needed.saturating_sub(1),
+        2 => rng.below(needed as u64 + 1) as usize,
+        3 | 4 => needed,
+        _ => needed + rng.between(1, 64) as usize,
+    }
+}

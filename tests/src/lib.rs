@@ -1,0 +1,21 @@
+//! The second program: Standard MIDI Files to MIDICSV text and back, written
+//! from the papers alone so that it can be held against the proved program.
+//! `operations` holds the five operations, `generate` the seeded inputs.
+
+pub mod generate;
+pub mod number;
+pub mod operations;
+pub mod piece;
+pub mod read_file;
+pub mod read_text;
+pub mod refusal;
+pub mod spelling;
+pub mod text_field;
+pub mod text_record;
+pub mod write_file;
+pub mod write_text;
+
+/// The longest file that is read or written, in bytes.
+pub const FILE_MAX: usize = 1_048_576;
+/// The longest text that is read, in bytes.
+pub const TEXT_MAX: usize = 33_554_432;

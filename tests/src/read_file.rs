@@ -1,0 +1,234 @@
+//! From the bytes of a file to its piece, or to its earliest fault.
+
+use crate::number::{big_endian, read_variable, Fault};
+use crate::piece::{Delta, Division, Event, Format, Kind, Mode, Piece, TextKind, Time, Track};
+use crate::refusal::{Number, Refusal};
+use crate::FILE_MAX;
+
+fn refuse<T>(number: Number, place: usize) -> Result<T, Refusal> {
+    Err(Refusal { number, place })
+}
+
+pub fn read_file(file: &[u8]) -> Result<Piece, Refusal> {
+    if file.len() > FILE_MAX {
+        return refuse(Number::FileTooLong, 0);
+    }
+    let (format, count, division) = read_header(file)?;
+    let mut tracks = Vec::new();
+    let mut at = 14;
+    for _ in 0..count {
+        let end = chunk_end(file, at)?;
+        tracks.push(read_track(&file[..end], at + 8)?);
+        at = end;
+    }
+    if at < file.len() {
+        return refuse(Number::AfterLastTrack, at);
+    }
+    Ok(Piece { format, division, tracks })
+}
+
+fn read_header(file: &[u8]) -> Result<(Format, usize, Division), Refusal> {
+    if file.len() < 14 {
+        return refuse(Number::FileCutShort, 0);
+    }
+    let fault = |place| Refusal { number: Number::Header, place };
+    if file[..4] != *b"MThd" {
+        return Err(fault(0));
+    }
+    if big_endian(&file[4..8]) != 6 {
+        return Err(fault(4));
+    }
+    let format = Format::from_number(big_endian(&file[8..10])).ok_or(fault(8))?;
+    let count = big_endian(&file[10..12]) as usize;
+    if !format.permits_tracks(count) {
+        return Err(fault(10));
+    }
+    let division = i16::from_be_bytes([file[12], file[13]]);
+    let division = Division::from_signed(division).ok_or(fault(12))?;
+    Ok((format, count, division))
+}
+
+/// Where the track chunk that begins at `at` ends.
+fn chunk_end(file: &[u8], at: usize) -> Result<usize, Refusal> {
+    let left = file.len() - at;
+    if left < 8 {
+        return refuse(Number::FileCutShort, at);
+    }
+    if file[at..at + 4] != *b"MTrk" {
+        return refuse(Number::TrackTag, at);
+    }
+    let length = big_endian(&file[at + 4..at + 8]) as usize;
+    if length > left - 8 {
+        return refuse(Number::FileCutShort, at);
+    }
+    Ok(at + 8 + length)
+}
+
+/// Reads the events from `at` to the end of `file`, which is the track's end.
+fn read_track(file: &[u8], at: usize) -> Result<Track, Refusal> {
+    let mut reader = Reader { file, at, event: at, time: Time::START, in_force: None };
+    let mut events = Vec::new();
+    loop {
+        let event = reader.event()?;
+        let last = event.kind == Kind::EndTrack;
+        events.push(event);
+        if last {
+            break;
+        }
+    }
+    if reader.at < file.len() {
+        return refuse(Number::AfterEndTrack, reader.at);
+    }
+    Ok(Track { events })
+}
+
+/// A place within a track; `file` ends where the track does.
+struct Reader<'a> {
+    file: &'a [u8],
+    at: usize,
+    /// The first byte of the event being read: the place of its faults.
+    event: usize,
+    time: Time,
+    in_force: Option<u8>,
+}
+
+impl<'a> Reader<'a> {
+    fn fault(&self, number: Number) -> Refusal {
+        Refusal { number, place: self.event }
+    }
+
+    fn byte(&mut self) -> Result<u8, Refusal> {
+        let byte = *self.file.get(self.at).ok_or(self.fault(Number::EventCutShort))?;
+        self.at += 1;
+        Ok(byte)
+    }
+
+    fn variable(&mut self) -> Result<u32, Refusal> {
+        match read_variable(&self.file[self.at..]) {
+            Ok((value, taken)) => {
+                self.at += taken;
+                Ok(value)
+            }
+            Err(Fault::Ends) => Err(self.fault(Number::EventCutShort)),
+            Err(Fault::TooLong) => Err(self.fault(Number::VariableTooLong)),
+        }
+    }
+
+    fn body(&mut self, length: u32) -> Result<&'a [u8], Refusal> {
+        let rest = &self.file[self.at..];
+        let body = rest.get(..length as usize).ok_or(self.fault(Number::EventCutShort))?;
+        self.at += body.len();
+        Ok(body)
+    }
+
+    fn event(&mut self) -> Result<Event, Refusal> {
+        self.event = self.at;
+        let delta = Delta(self.variable()?);
+        self.time = self.time.after(delta).ok_or(self.fault(Number::TimeTooGreat))?;
+        let first = self.byte()?;
+        let kind = match first {
+            0x00..=0x7F => {
+                let status = self.in_force.ok_or(self.fault(Number::Status))?;
+                // The byte is the first data byte: give it back.
+                self.at -= 1;
+                self.channel(status)?
+            }
+            0x80..=0xEF => self.channel(first)?,
+            0xF0 | 0xF7 => self.exclusive(first)?,
+            0xFF => self.meta()?,
+            _ => return Err(self.fault(Number::Status)),
+        };
+        self.in_force = kind.channel_status();
+        Ok(Event { time: self.time, kind })
+    }
+
+    fn channel_data(&mut self) -> Result<u8, Refusal> {
+        match self.byte()? {
+            byte @ 0..=127 => Ok(byte),
+            _ => Err(self.fault(Number::ChannelData)),
+        }
+    }
+
+    fn channel(&mut self, status: u8) -> Result<Kind, Refusal> {
+        let channel = status & 0x0F;
+        let first = self.channel_data()?;
+        Ok(match status >> 4 {
+            0xC => Kind::Program { channel, program: first },
+            0xD => Kind::ChannelAftertouch { channel, value: first },
+            high => {
+                let second = self.channel_data()?;
+                match high {
+                    0x8 => Kind::NoteOff { channel, key: first, velocity: second },
+                    0x9 => Kind::NoteOn { channel, key: first, velocity: second },
+                    0xA => Kind::PolyAftertouch { channel, key: first, value: second },
+                    0xB => Kind::Control { channel, control: first, value: second },
+                    _ => Kind::PitchBend {
+                        channel,
+                        value: 128 * u16::from(second) + u16::from(first),
+                    },
+                }
+            }
+        })
+    }
+
+    fn exclusive(&mut self, first: u8) -> Result<Kind, Refusal> {
+        let length = self.variable()?;
+        let data = self.body(length)?.to_vec();
+        Ok(match first {
+            0xF0 => Kind::SystemExclusive(data),
+            _ => Kind::SystemExclusivePacket(data),
+        })
+    }
+
+    fn meta(&mut self) -> Result<Kind, Refusal> {
+        let meta_type = self.byte()?;
+        if meta_type > 127 {
+            return Err(self.fault(Number::Status));
+        }
+        let length = self.variable()?;
+        if fixed_length(meta_type).is_some_and(|due| due != length) {
+            return Err(self.fault(Number::MetaLength));
+        }
+        let body = self.body(length)?;
+        meta_kind(meta_type, body).ok_or(self.fault(Number::MetaValue))
+    }
+}
+
+/// The length that a meta type demands, if it demands one.
+fn fixed_length(meta_type: u8) -> Option<u32> {
+    match meta_type {
+        0x00 | 0x59 => Some(2),
+        0x20 | 0x21 => Some(1),
+        0x2F => Some(0),
+        0x51 => Some(3),
+        0x54 => Some(5),
+        0x58 => Some(4),
+        _ => None,
+    }
+}
+
+/// The meta event with this body, or nothing if a value is out of range.
+fn meta_kind(meta_type: u8, body: &[u8]) -> Option<Kind> {
+    let kind = match meta_type {
+        0x00 => Kind::SequenceNumber(big_endian(body) as u16),
+        0x01..=0x07 => Kind::Text(TextKind::ALL[usize::from(meta_type) - 1], body.to_vec()),
+        0x20 => Kind::ChannelPrefix(body[0]),
+        0x21 => Kind::MidiPort(body[0]),
+        0x2F => Kind::EndTrack,
+        0x51 => Kind::Tempo(big_endian(body)),
+        0x54 => Kind::SmpteOffset(body.try_into().ok()?),
+        0x58 => Kind::TimeSignature(body.try_into().ok()?),
+        0x59 => Kind::KeySignature { key: body[0] as i8, mode: mode(body[1])? },
+        0x7F => Kind::SequencerSpecific(body.to_vec()),
+        _ => Kind::UnknownMeta { meta_type, data: body.to_vec() },
+    };
+    kind.keeps_ranges().then_some(kind)
+}
+
+fn mode(byte: u8) -> Option<Mode> {
+    match byte {
+        0 => Some(Mode::Major),
+        1 => Some(Mode::Minor),
+        _ => None,
+    }
+}

@@ -1,0 +1,94 @@
+//! Files that nobody of this project wrote, against what Debian's midicsv and
+//! csvmidi make of them (stored by make-expectations).
+
+mod common;
+
+use std::fs;
+use std::path::{Path, PathBuf};
+
+use common::{tidied, to_file, to_text};
+use second::operations::{check, list_tracks};
+use second::read_file::read_file;
+use second::refusal::Answer;
+
+fn corpus() -> PathBuf {
+    Path::new(env!("CARGO_MANIFEST_DIR")).join("corpus")
+}
+
+/// Name without extension, and bytes, of each outside file.
+fn files() -> Vec<(String, Vec<u8>)> {
+    let mut files = Vec::new();
+    for entry in fs::read_dir(corpus()).unwrap() {
+        let path = entry.unwrap().path();
+        if path.extension().is_some_and(|extension| extension == "mid") {
+            let name = path.file_stem().unwrap().to_string_lossy().into_owned();
+            files.push((name, fs::read(&path).unwrap()));
+        }
+    }
+    files.sort();
+    files
+}
+
+fn expected(name: &str, ending: &str) -> Vec<u8> {
+    let path = corpus().join("expected").join(format!("{name}.{ending}"));
+    fs::read(&path).unwrap_or_else(|error| panic!("{}: {error}", path.display()))
+}
+
+fn has_film_division(name: &str) -> bool {
+    name.contains("smpte")
+}
+
+#[test]
+fn all_files_are_there() {
+    let files = files();
+    assert_eq!(files.len(), 36);
+    assert_eq!(files.iter().filter(|(name, _)| has_film_division(name)).count(), 3);
+}
+
+#[test]
+fn film_divisions_are_refused() {
+    for (name, file) in files() {
+        let answer = match has_film_division(&name) {
+            true => Answer { number: 3, place: 12, length: 0 },
+            false => Answer::success(0),
+        };
+        assert_eq!(check(&file), answer, "{name}");
+    }
+}
+
+#[test]
+fn texts_are_those_of_midicsv() {
+    for (name, file) in files().iter().filter(|(name, _)| !has_film_division(name)) {
+        let text = to_text(file).unwrap();
+        assert!(text == expected(name, "csv"), "{name}");
+        assert!(text.len() <= 25 * file.len(), "{name}");
+    }
+}
+
+#[test]
+fn files_are_those_of_csvmidi() {
+    for (name, file) in files().iter().filter(|(name, _)| !has_film_division(name)) {
+        let text = expected(name, "csv");
+        let short = expected(name, "short.mid");
+        assert!(to_file(&text, 1).unwrap() == short, "{name}, manner 1");
+        assert!(to_file(&text, 0).unwrap() == expected(name, "full.mid"), "{name}, manner 0");
+        assert!(tidied(file).unwrap() == short, "{name}, tidied");
+    }
+}
+
+#[test]
+fn both_manners_read_back_as_the_same_piece() {
+    for (name, file) in files().iter().filter(|(name, _)| !has_film_division(name)) {
+        let piece = read_file(file).unwrap();
+        for ending in ["short.mid", "full.mid"] {
+            assert!(read_file(&expected(name, ending)).as_ref() == Ok(&piece), "{name}.{ending}");
+        }
+        let (mut times, mut counts) = ([0; 64], [0; 64]);
+        let answer = list_tracks(file, &mut times, &mut counts);
+        assert_eq!(answer, Answer::success(piece.tracks.len()), "{name}");
+        for (index, track) in piece.tracks.iter().enumerate() {
+            assert_eq!(times[index], track.events.last().unwrap().time.0, "{name}");
+            assert_eq!(counts[index] as usize, track.events.len(), "{name}");
+        }
+    }
+}

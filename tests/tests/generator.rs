@@ -1,0 +1,156 @@
+//! The generator's aim: what it must not lose without anybody seeing it.
+
+mod common;
+
+use std::collections::{BTreeMap, BTreeSet};
+
+use common::to_text;
+use second::generate::{benchmark_file, file_case, manner, piece, room, text_case, Rng};
+use second::number::read_variable;
+use second::operations::{check, file_to_text, text_to_file};
+use second::piece::{Event, Format, Kind, Piece, Time};
+use second::read_file::read_file;
+use second::refusal::Answer;
+use second::spelling::shortest;
+use second::write_file::{length_of, write_event};
+
+const CASES: u64 = 20_000;
+
+fn counted(numbers: impl Iterator<Item = u8>) -> BTreeMap<u8, u64> {
+    let mut counts = BTreeMap::new();
+    numbers.for_each(|number| *counts.entry(number).or_insert(0) += 1);
+    counts
+}
+
+/// Runs `operation` in as much room as a chance gives it.
+fn number_of(seed: u64, operation: impl Fn(&mut [u8]) -> Answer) -> u8 {
+    let asked = operation(&mut []);
+    let size = room(&mut Rng::new(seed), asked.length);
+    operation(&mut vec![0; size]).number
+}
+
+#[test]
+fn files_meet_every_number() {
+    let counts = counted((0..CASES).map(|seed| {
+        let file = file_case(seed);
+        number_of(seed, |room| file_to_text(&file, room))
+    }));
+    println!("{CASES} files, seeds 0..{CASES}: {counts:?}");
+    let met: BTreeSet<u8> = counts.keys().copied().collect();
+    assert_eq!(met, (0..=14).collect());
+    for (number, count) in counts {
+        let least = if number == 1 { 5 } else { 100 };
+        assert!(count >= least, "{number} only {count} times");
+    }
+}
+
+#[test]
+fn texts_meet_every_number() {
+    let counts = counted((0..CASES).map(|seed| {
+        let text = text_case(seed);
+        let manner = manner(&mut Rng::new(seed));
+        number_of(seed, |room| text_to_file(&text, manner, room))
+    }));
+    println!("{CASES} texts, seeds 0..{CASES}: {counts:?}");
+    let met: BTreeSet<u8> = counts.keys().copied().collect();
+    assert_eq!(met, [0, 14].into_iter().chain(21..=30).collect());
+    for (number, count) in counts {
+        let least = if number == 21 || number == 29 { 2 } else { 100 };
+        assert!(count >= least, "{number} only {count} times");
+    }
+}
+
+/// Aims that hit one number by more than one way: the places must vary too.
+#[test]
+fn header_faults_meet_every_place() {
+    let answers: BTreeSet<(u8, usize)> = (0..CASES)
+        .map(|seed| check(&file_case(seed)))
+        .filter(|answer| answer.number == 3)
+        .map(|answer| (answer.number, answer.place))
+        .collect();
+    assert_eq!(answers, BTreeSet::from([(3, 0), (3, 4), (3, 8), (3, 10), (3, 12)]));
+}
+
+fn events(piece: &Piece) -> impl Iterator<Item = &Event> {
+    piece.tracks.iter().flat_map(|track| &track.events)
+}
+
+#[test]
+fn pieces_have_every_kind_and_boundary() {
+    let (mut kinds, mut lengths, mut steps) = (BTreeSet::new(), BTreeSet::new(), BTreeSet::new());
+    let (mut formats, mut greatest) = (BTreeSet::new(), 0);
+    for seed in 0..2_000 {
+        let piece = piece(&mut Rng::new(seed));
+        assert!(piece.keeps_rules(), "seed {seed}");
+        formats.insert((piece.format.number(), piece.tracks.len() > 1));
+        for event in events(&piece) {
+            kinds.insert(name_of(&event.kind));
+            lengths.extend(length_of(&event.kind));
+            greatest += u32::from(event.time == Time(u32::MAX));
+        }
+        for track in &piece.tracks {
+            steps.extend(track.events.windows(2).map(|pair| pair[1].time.0 - pair[0].time.0));
+        }
+    }
+    assert_eq!(kinds.len(), 19 + 7, "{kinds:?}");
+    let one = Format::OneTrack.number();
+    assert!(formats.contains(&(one, false)) && !formats.contains(&(one, true)));
+    assert!(formats.contains(&(1, true)) && formats.contains(&(2, true)));
+    for length in [0, 127, 128, 16_383, 16_384] {
+        assert!(lengths.contains(&length), "no length {length}");
+    }
+    for step in [0, 127, 128, 16_383, 16_384, 2_097_151, 2_097_152, 268_435_455] {
+        assert!(steps.contains(&step), "no step {step}");
+    }
+    assert!(greatest > 50, "the greatest Time {greatest} times");
+}
+
+/// A word for the kind of an event: the variant's name, or the text's.
+fn name_of(kind: &Kind) -> String {
+    match kind {
+        Kind::Text(text, _) => format!("{text:?}_t"),
+        other => format!("{other:?}").split([' ', '(']).next().unwrap().to_owned(),
+    }
+}
+
+fn fnv(bytes: &[u8]) -> u64 {
+    let step = |hash: u64, byte: &u8| (hash ^ u64::from(*byte)).wrapping_mul(0x100_0000_01B3);
+    bytes.iter().fold(0xCBF2_9CE4_8422_2325, step)
+}
+
+#[test]
+fn the_benchmark_file_is_as_asked() {
+    let file = benchmark_file();
+    println!("benchmark: {} bytes, FNV {:016x}", file.len(), fnv(&file));
+    assert!((1_048_000..=1_048_576).contains(&file.len()), "{} bytes", file.len());
+    assert!(file == benchmark_file(), "not repeatable");
+    let piece = read_file(&file).unwrap();
+    let kinds: BTreeSet<String> = events(&piece).map(|event| name_of(&event.kind)).collect();
+    assert_eq!(kinds.len(), 19 + 7, "{kinds:?}");
+    for track in &piece.tracks {
+        let mut before = None;
+        for event in &track.events {
+            let mut bytes = Vec::new();
+            let spelling = shortest(event, before).unwrap();
+            write_event(event, before, spelling, &mut bytes).unwrap();
+            assert!(bytes.len() <= 100, "an event of {} bytes", bytes.len());
+            assert!(read_variable(&bytes).is_ok());
+            before = Some(event);
+        }
+    }
+    assert!(to_text(&file).is_ok());
+}
+
+/// Cases and benchmark stay what they were: measurements and reports name them.
+#[test]
+fn seeds_give_what_they_gave() {
+    let hash = |make: fn(u64) -> Vec<u8>| {
+        let bytes: Vec<u8> = (0..500).flat_map(|seed| fnv(&make(seed)).to_be_bytes()).collect();
+        fnv(&bytes)
+    };
+    let hashes = [hash(file_case), hash(text_case), fnv(&benchmark_file())];
+    println!("{hashes:016x?}");
+    assert_eq!(hashes, PINNED, "pin anew if the generator was changed on purpose");
+}
+
+const PINNED: [u64; 3] = [0xfebf_4f6a_58eb_4895, 0x255e_fdf4_429a_07b3, 0x80ca_d4ff_450a_95d7];

@@ -1,0 +1,92 @@
+//! Lent room: exact, one short, larger, none; what is not written stays.
+
+mod common;
+
+use second::generate::{file_case, manner, room, text_case, Rng};
+use second::operations::{file_to_text, list_tracks, text_to_file, tidy};
+use second::refusal::Answer;
+
+const SEEDS: u64 = 3_000;
+const GUARD: u8 = 0xA5;
+
+/// Tries an operation in rooms of every sort, and gives its answer with none.
+fn try_rooms(seed: u64, operation: impl Fn(&mut [u8]) -> Answer) -> Answer {
+    let asked = operation(&mut []);
+    assert_ne!(asked.number, 0, "seed {seed}: every success writes something");
+    let needed = asked.length;
+    assert_eq!(needed > 0, asked.number == 14, "seed {seed}: {asked:?}");
+    let mut whole = vec![GUARD; needed];
+    if asked.number == 14 {
+        assert_eq!(operation(&mut whole), Answer::success(needed), "seed {seed}: exact");
+    }
+    let rng = &mut Rng::new(seed);
+    for size in [needed.saturating_sub(1), needed + 1, needed + 40, room(rng, needed)] {
+        let mut lent = vec![GUARD; size];
+        let answer = operation(&mut lent);
+        if asked.number == 14 && size >= needed {
+            assert_eq!(answer, Answer::success(needed), "seed {seed}: {size}");
+            assert!(lent[..needed] == whole, "seed {seed}: {size}");
+            assert!(lent[needed..].iter().all(|byte| *byte == GUARD), "seed {seed}: {size}");
+        } else {
+            assert_eq!(answer, asked, "seed {seed}: {size}");
+            assert!(lent.iter().all(|byte| *byte == GUARD), "seed {seed}: {size}");
+        }
+    }
+    asked
+}
+
+#[test]
+fn rooms_for_texts_and_tidied_files() {
+    let mut fits = 0;
+    for seed in 0..SEEDS {
+        let file = file_case(seed);
+        let asked = try_rooms(seed, |room| file_to_text(&file, room));
+        assert_eq!(asked.number == 14, try_rooms(seed, |room| tidy(&file, room)).number == 14);
+        fits += u64::from(asked.number == 14);
+    }
+    println!("{fits} of {SEEDS} files written, seeds 0..{SEEDS}");
+    assert!(fits > SEEDS / 4);
+}
+
+#[test]
+fn rooms_for_files() {
+    let mut fits = 0;
+    for seed in 0..SEEDS {
+        let text = text_case(seed);
+        let manner = manner(&mut Rng::new(seed));
+        let asked = try_rooms(seed, |room| text_to_file(&text, manner, room));
+        fits += u64::from(asked.number == 14);
+    }
+    println!("{fits} of {SEEDS} texts written, seeds 0..{SEEDS}");
+    assert!(fits > SEEDS / 4);
+}
+
+#[test]
+fn rooms_for_lists() {
+    for seed in 0..SEEDS {
+        let file = file_case(seed);
+        let asked = list_tracks(&file, &mut [], &mut []);
+        let count = asked.length;
+        for (first, second) in [(count, count), (count, count + 3), (count + 2, count)] {
+            let (mut times, mut counts) = (vec![77; first], vec![78; second]);
+            let answer = list_tracks(&file, &mut times, &mut counts);
+            if asked.number == 14 {
+                assert_eq!(answer, Answer::success(count), "seed {seed}");
+                assert!(times[count..].iter().all(|time| *time == 77), "seed {seed}");
+                assert!(counts[count..].iter().all(|number| *number == 78), "seed {seed}");
+                assert!(counts[..count].iter().all(|number| *number >= 1), "seed {seed}");
+            } else {
+                assert_eq!(answer, asked, "seed {seed}");
+                assert!(times.iter().all(|time| *time == 77), "seed {seed}");
+            }
+        }
+        if asked.number == 14 {
+            for (first, second) in [(count - 1, count), (count, count - 1), (0, count + 9)] {
+                let (mut times, mut counts) = (vec![77; first], vec![78; second]);
+                assert_eq!(list_tracks(&file, &mut times, &mut counts), asked, "seed {seed}");
+                assert!(times.iter().all(|time| *time == 77), "seed {seed}: a list is short");
+                assert!(counts.iter().all(|number| *number == 78), "seed {seed}: a list is short");
+            }
+        }
+    }
+}
