@@ -42,7 +42,7 @@ unfolding KeyFits keyByte
 key-ok (sharps n) h = rw (le-leb n 7 h)
 key-ok (flats n) h = rw (lt-leb (256 - n) 7 (omega arith), le-leb 249 (256 - n) (omega arith))
 
-key-back : (k : Key) → KeyFits k → keyOf (keyByte k) ≡ k
+pub key-back : (k : Key) → KeyFits k → keyOf (keyByte k) ≡ k
 unfolding KeyFits keyByte keyOf
 key-back (sharps n) h = pick-true _ _ (le-leb n 7 h)
 key-back (flats n) h = pick-false _ _ (lt-leb (256 - n) 7 (omega arith)) ∙ ap flats (omega arith)

@@ -13,3 +13,4 @@ pub mod LoopLaws
 pub mod RowLaws
 pub mod StatusLaws
 pub mod StepLaws
+pub mod DataLaws

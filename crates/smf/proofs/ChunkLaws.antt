@@ -162,7 +162,7 @@ unfolding tracksStep andThen
 tracks-cons n t (ok ts q) = refl
 tracks-cons n t (refused k p) = refl
 
-track-bad : (n k p : ℕ) (m : Outcome (List Event)) → trackStep n m ≡ BadTrack k p → m ≡ refused k p
+pub track-bad : (n k p : ℕ) (m : Outcome (List Event)) → trackStep n m ≡ BadTrack k p → m ≡ refused k p
 unfolding trackStep
 track-bad n k p (ok es r) e = let w : _≡_ {A = ℕ} 0 1 = cc in absurd (omega arith)
 track-bad n k p (refused j z) e = let a : j ≡ k = cc in let b : z ≡ p = cc in cc

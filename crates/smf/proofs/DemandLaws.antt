@@ -19,6 +19,7 @@ use Rattle.smf.specs.Demand3.{Demand3}
 use Rattle.smf.specs.declared.Answer.{Answer}
 use Rattle.smf.proofs.FileLaws.{piece-read, piece-sound}
 use Rattle.smf.proofs.RefusalLaws.{file-fair}
+use Rattle.smf.proofs.PieceReadLaws.{piece-is}
 
 -- a file is accepted with the piece p exactly where it is the layout of p with some permitted spelling, and not too long
 pub demand-3 : (f : List ℕ) → Bytes f → (p : Piece) → (readFile f ≡ ok p []) ↔ (LaidOut f p × (length f ≤ fileLimit))
@@ -52,11 +53,11 @@ zero-laid f (refused k q) bs e n z = absurd (omega arith)
 
 -- "Accepted: checking the file answers number 0"
 pub demand : (f : List ℕ) → Bytes f → Demand3 f (verdict (readFile f) .number)
-unfolding verdict
+unfolding verdict readFile
 demand f bs =
     record {
       accepted = (λ z. zero-laid f (readFile f) bs refl (file-fair f bs) z, λ (p, l, k). ap (λ m. verdict m .number) (demand-3 f bs p .1 (l, k)));
-      piece = demand-3 f bs;
+      piece = λ p l k. piece-is f p [] bs (check-ok _ 1 0 _ p [] (demand-3 f bs p .1 (l, k)) .1);
     }
 
 -- both parts of what check promises

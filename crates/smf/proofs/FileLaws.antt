@@ -245,7 +245,7 @@ piece-read p s h =
     ∙ andThen-eq _ (ap (readTracks (length (p .tracks)) _) (sym (append-nil (layTracks (p .tracks) (s .tracks))))
     ∙ tracks-read _ (p .tracks) (s .tracks) [] (l .tracks) (h .permitted) (h .short))
 
-more-sound : {X : Type 0} (at : ℕ) (p q : Piece) (l r : List ℕ) → noMore at p l ≡ ok q r → (l ≡ [] → p ≡ q → [] ≡ r → X) → X
+pub more-sound : {X : Type 0} (at : ℕ) (p q : Piece) (l r : List ℕ) → noMore at p l ≡ ok q r → (l ≡ [] → p ≡ q → [] ≡ r → X) → X
 unfolding noMore
 more-sound at p q [] r e k = k refl (cc) (cc)
 more-sound at p q (b ∷ l) r e k = not-ok e

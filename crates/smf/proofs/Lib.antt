@@ -9,3 +9,5 @@ pub mod HeaderLaws
 pub mod WalkLaws
 pub mod ChunkLaws
 pub mod VerdictLaws
+pub mod PieceReadLaws
+pub mod ListLaws

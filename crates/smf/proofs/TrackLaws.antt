@@ -54,7 +54,7 @@ all-read at prev force es ss l p = events-read (suc (length (layEvents prev es s
 
 -- ---- what is read was laid out
 
-go-sound : {X : Type 0} (b : Bool) (at : ℕ) (e : Event) (r : List ℕ) (k : Outcome (List Event)) (es : List Event) (q : List ℕ) → goOn b at e r k ≡ ok es q
+pub go-sound : {X : Type 0} (b : Bool) (at : ℕ) (e : Event) (r : List ℕ) (k : Outcome (List Event)) (es : List Event) (q : List ℕ) → goOn b at e r k ≡ ok es q
     → (b ≡ true → r ≡ [] → e ∷ [] ≡ es → [] ≡ q → X)
     → (b ≡ false → (fs : List Event) → k ≡ ok fs q → e ∷ fs ≡ es → X) → X
 unfolding goOn ended

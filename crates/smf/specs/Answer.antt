@@ -12,6 +12,10 @@ success n = record { number = 0; place = 0; length = n }
 abbrev pub refusal : ℕ → ℕ → Answer
 refusal number place = record { number = number; place = place; length = 0 }
 
+-- "save in 14, which gives the length needed, at place 0"
+abbrev pub roomNeeded : ℕ → Answer
+roomNeeded n = record { number = 14; place = 0; length = n }
+
 -- the verdict on a file: "the length written (0 for checking a file)"
 unfoldable pub verdict : Outcome Piece → Answer
 verdict (ok p r) = success 0

@@ -6,5 +6,7 @@ pub mod Reader
 pub mod Step
 pub mod Answer
 pub mod Example
+pub mod PieceRead
 pub mod Demand3
+pub mod Listing
 pub mod Slips

@@ -1,11 +1,11 @@
 // Whole files: the header, the tracks, checking, and listing the tracks.
 ghost use mathlib.Core.Path.{_≡_};
-ghost use Rattle.smf.specs.Answer.{success, refusal};
+ghost use Rattle.smf.specs.Answer.{success, refusal, roomNeeded};
 
 pub mod header; // header.rt: the header
 pub mod track; // track.rt: a track's chunk and its events
 pub mod check; // check.rt: checking a file
-//pub mod list; // list.rt: listing the tracks
+pub mod list; // list.rt: listing the tracks
 
 // What every operation answers: a refusal's number and place, or 0, 0 and the length written.
 pub struct Answer {
@@ -32,6 +32,16 @@ impl Answer {
             number,
             place,
             length: 0,
+        }
+    }
+
+    pub fn room_needed(length: usize) -> Answer
+        ensures { λ r. ⌜ r ≡ roomNeeded length ⌝ }
+    {
+        Answer {
+            number: 14,
+            place: 0,
+            length,
         }
     }
 }

@@ -1,0 +1,204 @@
+-- Listing the tracks: the turns of its loop, and one law for each of its answers.
+use mathlib.Core.Path.{_≡_, refl, sym, ap, ap₂, _∙_}
+use Prim.Native.Nat.{ℕ, zero, suc, _+_, _-_, _<_, _≤_}
+use mathlib.Core.Bool.{true, false}
+use mathlib.Core.List.{List, [], _∷_}
+use native.Mathlib.Omega.{arith}
+use lib.ListN.{length, drop, set, length-drop}
+use native.Mathlib.Numerals.{add-one}
+use lib.Seq.{sets, sets-eq}
+use borrow.Author.Tests.{le-leb, lt-leb}
+use Rattle.event.specs.Bytes.{Bytes}
+use Rattle.event.specs.Choice.{pick}
+use Rattle.event.specs.Event.{Event}
+use Rattle.event.specs.Outcome.{Outcome, ok, refused, andThen}
+use Rattle.event.specs.declared.Time.{Time}
+use Rattle.event.proofs.OutcomeLaws.{ok-same, andThen-ok, check-ok}
+use Rattle.event.proofs.RefusalLaws.{Fair}
+use Rattle.smf.specs.Piece.{Piece}
+use Rattle.smf.specs.Reader.{readTrack, readTracks, readHeader, readPiece, readFile}
+use Rattle.smf.specs.Answer.{success, roomNeeded, verdict}
+use Rattle.smf.specs.Step.{headerStep, lastTime, trackStep}
+use Rattle.smf.specs.Listing.{endTimes, eventCounts, hasRoom, listAnswer, listLeaves, tracksIn, Readable}
+use Rattle.smf.specs.declared.Answer.{Answer}
+use Rattle.smf.specs.declared.Division.{Division}
+use Rattle.smf.specs.declared.HeaderStep.the-variants.{Fields, BadHeader}
+use Rattle.smf.specs.declared.TrackStep.the-variants.{Track, BadTrack}
+use Rattle.event.proofs.BytesLaws.{bytes-drop}
+use Rattle.event.proofs.PlaceLaws.{place-back}
+use Rattle.smf.proofs.FileLaws.{tracks-sound, more-sound}
+use Rattle.smf.proofs.RefusalLaws.{file-fair}
+use Rattle.smf.proofs.ChunkLaws.{track-bad, track-found}
+use Rattle.smf.proofs.VerdictLaws.{head-at}
+
+-- ---- a turn of the loop, with so many tracks left from the place at on
+
+cons-readable : (t : List Event) (k : Outcome (List (List Event))) → Readable (andThen k (λ ts q. ok (t ∷ ts) q)) → Readable k
+unfolding Readable andThen
+cons-readable t (ok ts q) h = tt
+cons-readable t (refused n p) h = h
+
+cons-tracks : (t : List Event) (k : Outcome (List (List Event))) → Readable k → tracksIn (andThen k (λ ts q. ok (t ∷ ts) q)) ≡ t ∷ tracksIn k
+unfolding Readable andThen tracksIn
+cons-tracks t (ok ts q) h = refl
+cons-tracks t (refused n p) h = absurd h
+
+abbrev pub R : List ℕ → ℕ → ℕ → Outcome (List (List Event))
+R s left at = readTracks left at (drop at s)
+
+pub list-bad : (s : List ℕ) (left at k p : ℕ) → 0 < left → trackStep (length s) (readTrack at (drop at s)) ≡ BadTrack k p → Readable (R s left at) → ⊥
+unfolding readTracks andThen Readable
+list-bad s zero at k p z e h = omega arith
+list-bad s (suc n) at k p z e h = rw (track-bad (length s) k p (readTrack at (drop at s)) e) at h
+
+-- one track is listed, n others are left
+pub record Listed (s : List ℕ) (left n at : ℕ) (t : Time) (c q : ℕ) : Type 0 where
+  pub inside : q ≤ length s
+  pub readable : Readable (R s n q)
+  pub times : endTimes (tracksIn (R s left at)) ≡ t .0 ∷ endTimes (tracksIn (R s n q))
+  pub counts : eventCounts (tracksIn (R s left at)) ≡ c ∷ eventCounts (tracksIn (R s n q))
+
+list-one : (s : List ℕ) (n at : ℕ) (t : Time) (c q : ℕ) → Bytes s → at ≤ length s → trackStep (length s) (readTrack at (drop at s)) ≡ Track t c q
+    → Readable (R s (suc n) at) → Listed s (suc n) n at t c q
+unfolding readTracks andThen endTimes eventCounts
+list-one s n at t c q bs h e w =
+    track-found s at t c q bs h e (λ es come lo hi pt pc.
+    let next : at + (length (drop at s) - length (drop q s)) ≡ q = simp length-drop (omega arith) in
+    let step : readTracks (suc n) at (drop at s) ≡ andThen (R s n q) (λ ts r. ok (es ∷ ts) r) = rw (come, next) refl in
+    let good : Readable (R s n q) = cons-readable es (R s n q) (rw step at w) in
+    let all : tracksIn (R s (suc n) at) ≡ es ∷ tracksIn (R s n q) = ap tracksIn step ∙ cons-tracks es (R s n q) good in
+    let time : lastTime 0 es ≡ t .0 = ap (λ (x : Time). x .0) pt in
+    record {
+      inside = hi;
+      readable = good;
+      times = ap endTimes all ∙ ap (λ x. x ∷ endTimes (tracksIn (R s n q))) time;
+      counts = ap eventCounts all ∙ ap (λ x. x ∷ eventCounts (tracksIn (R s n q))) pc;
+    })
+
+pub list-next : (s : List ℕ) (left n at : ℕ) (t : Time) (c q : ℕ) → left ≡ suc n → Bytes s → at ≤ length s → trackStep (length s) (readTrack at (drop at s)) ≡ Track t c q
+    → Readable (R s left at) → Listed s left n at t c q
+list-next s left n at t c q e bs h g w = rw e (list-one s n at t c q bs h g (rw e at w))
+
+none-left : (s : List ℕ) (left at : ℕ) → left ≤ 0 → tracksIn (R s left at) ≡ []
+unfolding readTracks tracksIn
+none-left s zero at h = refl
+none-left s (suc n) at h = absurd (omega arith)
+
+pub list-none : (f : List (List Event) → List ℕ) (s : List ℕ) (left at : ℕ) (now : List ℕ) (i : ℕ) → f [] ≡ [] → left ≤ 0 → sets now i (f (tracksIn (R s left at))) ≡ now
+list-none f s left at now i e h = rw (none-left s left at h, e) refl
+
+-- ---- the answers
+
+pub list-refused : (n m : ℕ) (x : Outcome Piece) (v : Answer) → v ≡ verdict x → (v .number ≡ 0 → ⊥) → v ≡ listAnswer n m x
+unfolding verdict listAnswer
+list-refused n m (ok p r) v e h = absurd (h (ap (λ (w : Answer). w .number) e))
+list-refused n m (refused k q) v e h = e
+
+pub refused-leaves : (f : List (List Event) → List ℕ) (n m : ℕ) (x : Outcome Piece) (v : Answer) (old : List ℕ) → v ≡ verdict x → (v .number ≡ 0 → ⊥) → old ≡ listLeaves f n m x old
+unfolding verdict listLeaves
+refused-leaves f n m (ok p r) v old e h = absurd (h (ap (λ (w : Answer). w .number) e))
+refused-leaves f n m (refused k q) v old e h = refl
+
+-- ---- where the file is accepted
+
+-- its piece, and its tracks as the header counts them
+pub record Accepted (s : List ℕ) (b n : ℕ) : Type 0 where
+  pub piece : Piece
+  pub rest : List ℕ
+  pub left : List ℕ
+  pub read : readFile s ≡ ok piece rest
+  pub tracks : R s b n ≡ ok (piece .tracks) left
+  pub count : length (piece .tracks) ≡ b
+
+accepted-piece : (s : List ℕ) (a b : ℕ) (d : Division) (n : ℕ) (p : Piece) (r : List ℕ) → Bytes s → headerStep (length s) (readHeader s) ≡ Fields a b d n → readFile s ≡ ok p r → Accepted s b n
+unfolding readFile readPiece
+accepted-piece s a b d n p r bs e q =
+    let there = head-at s a b d n bs e in
+    let (c0, q0) = check-ok _ 1 0 _ p r q in
+    andThen-ok (readHeader s) _ p r q0 (λ h l qh q1.
+    andThen-ok _ _ p r q1 (λ ts m qt q2.
+    ok-same (there .header) h _ l (sym (there .read) ∙ qh) (λ sameHead rest.
+    more-sound _ _ p m r q2 (λ mn same rn.
+    let count : h .count ≡ b = ap (λ z. z .count) (sym sameHead) ∙ there .sameCount in
+    let at : length s - length l ≡ n = ap (λ z. length s - length z) (sym rest) ∙ place-back s n (there .inside) in
+    let tracks : R s b n ≡ ok ts m = ap₂ (λ x y. readTracks x y (drop n s)) (sym count) (sym at) ∙ ap (readTracks (h .count) (length s - length l)) rest ∙ qt in
+    let laid = tracks-sound b n (drop n s) ts m (bytes-drop s n bs) tracks in
+    let inPiece : p .tracks ≡ ts = ap (λ z. z .tracks) (sym same) in
+    record { piece = p; rest = r; left = m; read = q; tracks = tracks ∙ ap (λ z. ok z m) (sym inPiece); count = ap length inPiece ∙ laid .count }))))
+
+accepted-verdict : (s : List ℕ) (a b : ℕ) (d : Division) (n : ℕ) (x : Outcome Piece) → Bytes s → headerStep (length s) (readHeader s) ≡ Fields a b d n → readFile s ≡ x → Fair (length s) x
+    → verdict x .number ≡ 0 → Accepted s b n
+unfolding verdict
+accepted-verdict s a b d n (ok p r) bs e q f z = accepted-piece s a b d n p r bs e q
+accepted-verdict s a b d n (refused k w) bs e q f z = absurd (omega arith)
+
+pub accepted : (s : List ℕ) (a b : ℕ) (d : Division) (n : ℕ) (v : Answer) → Bytes s → headerStep (length s) (readHeader s) ≡ Fields a b d n → v ≡ verdict (readFile s) → v .number ≡ 0 → Accepted s b n
+accepted s a b d n v bs e q z = accepted-verdict s a b d n (readFile s) bs e refl (file-fair s bs) (ap (λ (w : Answer). w .number) (sym q) ∙ z)
+
+module _ (s : List ℕ) (b n : ℕ) (there : Accepted s b n) where
+  pub accepted-readable : Readable (R s b n)
+  unfolding Readable
+  accepted-readable = rw (there .tracks) tt
+
+  -- a list is too short
+  module _ (x y : ℕ) (short : hasRoom x y b ≡ false) where
+    pub short-answer : roomNeeded b ≡ listAnswer x y (readFile s)
+    unfolding listAnswer pick
+    short-answer = rw (there .read, there .count, short) refl
+
+    pub short-leaves : (f : List (List Event) → List ℕ) (old : List ℕ) → old ≡ listLeaves f x y (readFile s) old
+    unfolding listLeaves pick
+    short-leaves f old = rw (there .read, there .count, short) refl
+
+  -- both are long enough
+  module _ (x y : ℕ) (fits : hasRoom x y b ≡ true) where
+    pub fine-answer : success b ≡ listAnswer x y (readFile s)
+    unfolding listAnswer pick
+    fine-answer = rw (there .read, there .count, fits) refl
+
+    pub fine-leaves : (f : List (List Event) → List ℕ) (old : List ℕ) → ((ts : List (List Event)) → length (f ts) ≡ length ts) → b ≤ length old
+        → sets old 0 (f (tracksIn (R s b n))) ≡ listLeaves f x y (readFile s) old
+    unfolding listLeaves pick tracksIn
+    fine-leaves f old same room =
+        let size : length (f (there .piece .tracks)) ≡ b = same (there .piece .tracks) ∙ there .count in
+        let past : 0 + length (f (there .piece .tracks)) ≡ b = omega arith in
+        ap (λ z. sets old 0 (f (tracksIn z))) (there .tracks)
+        ∙ sets-eq (f (there .piece .tracks)) old 0 (omega arith)
+        ∙ rw (there .read, there .count, fits, past) refl
+
+pub length-times : (ts : List (List Event)) → length (endTimes ts) ≡ length ts
+unfolding endTimes
+length-times [] = refl
+length-times (t ∷ ts) = ap suc (length-times ts)
+
+pub length-counts : (ts : List (List Event)) → length (eventCounts ts) ≡ length ts
+unfolding eventCounts
+length-counts [] = refl
+length-counts (t ∷ ts) = ap suc (length-counts ts)
+
+pub room-yes : (n m k : ℕ) → k ≤ n → k ≤ m → hasRoom n m k ≡ true
+unfolding hasRoom
+room-yes n m k h g = rw (le-leb k n h, le-leb k m g)
+
+pub room-first : (n m k : ℕ) → n < k → hasRoom n m k ≡ false
+unfolding hasRoom
+room-first n m k h = rw (lt-leb k n h)
+
+pub room-second : (n m k : ℕ) → k ≤ n → m < k → hasRoom n m k ≡ false
+unfolding hasRoom
+room-second n m k h g = rw (le-leb k n h, lt-leb k m g)
+
+-- a store, and then the others
+pub sets-step : (l : List ℕ) (i x : ℕ) (xs : List ℕ) → sets (set l i x) (i + 1) xs ≡ sets l i (x ∷ xs)
+sets-step l i x xs = rw (add-one i) refl
+
+no-bad-header : (s : List ℕ) (k p : ℕ) (x : Outcome Piece) → headerStep (length s) (readHeader s) ≡ BadHeader k p → readFile s ≡ x → Fair (length s) x → verdict x .number ≡ 0 → ⊥
+unfolding verdict readFile readPiece headerStep
+no-bad-header s k p (ok q r) e come f z =
+    let (c0, q0) = check-ok _ 1 0 _ q r come in
+    andThen-ok (readHeader s) _ q r q0 (λ h l qh q1. let w : headerStep (length s) (ok h l) ≡ BadHeader k p = ap (headerStep (length s)) (sym qh) ∙ e in let z1 : _≡_ {A = ℕ} 0 1 = cc in omega arith)
+no-bad-header s k p (refused j w) e come f z = omega arith
+
+-- an accepted file has a header
+pub header-there : (s : List ℕ) (k p : ℕ) (v : Answer) → Bytes s → headerStep (length s) (readHeader s) ≡ BadHeader k p → v ≡ verdict (readFile s) → v .number ≡ 0 → ⊥
+header-there s k p v bs e q z = no-bad-header s k p (readFile s) e refl (file-fair s bs) (ap (λ (w : Answer). w .number) (sym q) ∙ z)
