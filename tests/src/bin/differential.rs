@@ -3,7 +3,7 @@
 
 use std::env;
 use std::fs;
-use std::ops::{Range, RangeInclusive};
+use std::ops::Range;
 use std::process::ExitCode;
 use std::time::Instant;
 
@@ -29,7 +29,8 @@ fn main() -> ExitCode {
         eprintln!("{USAGE}");
         return ExitCode::from(2);
     };
-    let good = [on_files(&CHECK, 0..=13, cases, first)];
+    let from_files: Vec<u8> = (0..=13).collect();
+    let good = [on_files(&CHECK, &from_files, cases, first)];
     if good.contains(&false) {
         return ExitCode::FAILURE;
     }
@@ -51,8 +52,8 @@ fn numbers_given() -> Option<(u64, u64)> {
     first.checked_add(cases).map(|_| (cases, first))
 }
 
-/// Compares an operation that takes a file; `met` are the numbers to be met.
-fn on_files(operation: &Operation, met: RangeInclusive<u8>, cases: u64, first: u64) -> bool {
+/// Compares an operation that takes a file; `due` are the numbers to be met.
+fn on_files(operation: &Operation, due: &[u8], cases: u64, first: u64) -> bool {
     let outside: Vec<Vec<u8>> = outside_files().into_iter().map(|(_, file)| file).collect();
     let limits: Vec<Vec<u8>> = limit_cases().into_iter().map(|case| case.file).collect();
     let long = benchmark_file();
@@ -66,7 +67,7 @@ fn on_files(operation: &Operation, met: RangeInclusive<u8>, cases: u64, first: u
         mutated(seed, &outside[(seed % outside.len() as u64) as usize])
     });
     run.source("long", first..first + cases / 400, |seed| mutated(seed, &long));
-    run.report(met)
+    run.report(due)
 }
 
 /// What one operation answered, source by source.
@@ -108,9 +109,9 @@ impl Run<'_> {
     }
 
     /// Prints the table and the verdict; true if it is good.
-    fn report(&self, due: RangeInclusive<u8>) -> bool {
+    fn report(&self, due: &[u8]) -> bool {
         let name = self.operation.name;
-        println!("{name}: archive against second program, seconds: {:.0}", self.seconds());
+        println!("{name}: archive against second program, {:.0} seconds", self.seconds());
         self.row("source", |source| source.name.to_owned());
         self.row("seeds", |source| format!("{}..{}", source.seeds.start, source.seeds.end));
         let total = |number: u8| -> u64 {
@@ -121,7 +122,7 @@ impl Run<'_> {
         }
         self.row("cases", |source| (source.seeds.end - source.seeds.start).to_string());
 
-        let missing: Vec<u8> = due.filter(|number| total(*number) == 0).collect();
+        let missing: Vec<&u8> = due.iter().filter(|number| total(**number) == 0).collect();
         let cases: u64 =
             self.sources.iter().map(|source| source.seeds.end - source.seeds.start).sum();
         println!("{name}: {cases} cases, {} differences, never met: {missing:?}", self.differences);
@@ -130,7 +131,7 @@ impl Run<'_> {
 
     fn row(&self, title: &str, cell: impl Fn(&Source) -> String) {
         let cells: String =
-            self.sources.iter().map(|source| format!("{:>16}", cell(source))).collect();
+            self.sources.iter().map(|source| format!(" {:>18}", cell(source))).collect();
         println!("  {title:<8}{cells}");
     }
 
