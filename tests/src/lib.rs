@@ -1,10 +1,15 @@
 //! The second program: Standard MIDI Files to MIDICSV text and back, written
 //! from the papers alone so that it can be held against the proved program.
-//! `operations` holds the five operations, `generate` the seeded inputs.
+//! `operations` holds the five operations, `generate` the seeded inputs, and
+//! `compare` holds the one program against the other.
 
+#[cfg(feature = "archive")]
+pub mod archive;
+pub mod compare;
 pub mod generate;
 pub mod number;
 pub mod operations;
+pub mod outside;
 pub mod piece;
 pub mod read_file;
 pub mod read_text;

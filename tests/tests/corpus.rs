@@ -4,30 +4,12 @@
 mod common;
 
 use std::fs;
-use std::path::{Path, PathBuf};
 
 use common::{tidied, to_file, to_text};
 use second::operations::{check, list_tracks};
+use second::outside::{corpus, outside_files as files};
 use second::read_file::read_file;
 use second::refusal::Answer;
-
-fn corpus() -> PathBuf {
-    Path::new(env!("CARGO_MANIFEST_DIR")).join("corpus")
-}
-
-/// Name without extension, and bytes, of each outside file.
-fn files() -> Vec<(String, Vec<u8>)> {
-    let mut files = Vec::new();
-    for entry in fs::read_dir(corpus()).unwrap() {
-        let path = entry.unwrap().path();
-        if path.extension().is_some_and(|extension| extension == "mid") {
-            let name = path.file_stem().unwrap().to_string_lossy().into_owned();
-            files.push((name, fs::read(&path).unwrap()));
-        }
-    }
-    files.sort();
-    files
-}
 
 fn expected(name: &str, ending: &str) -> Vec<u8> {
     let path = corpus().join("expected").join(format!("{name}.{ending}"));

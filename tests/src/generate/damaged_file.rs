@@ -220,11 +220,17 @@ fn tail(rng: &mut Rng) -> Vec<u8> {
 
 /// A file of `make` with some bytes changed, lost, doubled or put in.
 pub fn mutated(rng: &mut Rng, make: fn(&mut Rng) -> Vec<u8>) -> Vec<u8> {
-    let mut file = make(rng);
+    let file = make(rng);
+    mutated_copy(rng, &file)
+}
+
+/// A copy of `file` with some bytes changed, lost, doubled or put in.
+pub fn mutated_copy(rng: &mut Rng, file: &[u8]) -> Vec<u8> {
+    let mut copy = file.to_vec();
     for _ in 0..rng.between(1, 4) {
-        mutate(rng, &mut file);
+        mutate(rng, &mut copy);
     }
-    file
+    copy
 }
 
 /// One small random change; also of use for texts.

@@ -29,10 +29,10 @@ pub fn text(rng: &mut Rng) -> Vec<u8> {
 }
 
 /// A piece whose file is `size` bytes in manner 1, and one more in manner 0.
-fn one_long_text(size: usize) -> Piece {
+pub fn one_long_text(size: usize) -> Piece {
     let note = Kind::NoteOn { channel: 0, key: 60, velocity: 64 };
     // Header and track start 22, notes 4 and 3, the text's own 6, End_track 4.
-    let text = Kind::Text(TextKind::Lyric, vec![b'a'; size - 22 - 7 - 7 - 4]);
+    let text = Kind::Text(TextKind::Lyric, vec![b'a'; size - 22 - 7 - 6 - 4]);
     let kinds = [note.clone(), note, text, Kind::EndTrack];
     let events = kinds.into_iter().map(|kind| Event { time: Time::START, kind }).collect();
     Piece {

@@ -7,7 +7,10 @@
 //! - `piece(rng)`, `spelling(rng, piece)`: good pieces and permitted spellings.
 //! - `varied_text(rng, piece)`: a text of the piece, spelled loosely.
 //! - `benchmark_file()`: one file of nearly 1 MiB.
+//! - `limit_cases()`: files at the limit of size and past it, by hand.
+//! - `mutated_copy(rng, file)`: a file with some bytes changed.
 
+mod at_limit;
 mod benchmark;
 mod damaged_file;
 mod damaged_text;
@@ -18,7 +21,9 @@ mod raw_file;
 mod rng;
 mod text_lines;
 
+pub use at_limit::{limit_cases, LimitCase};
 pub use benchmark::benchmark_file;
+pub use damaged_file::mutated_copy;
 pub use pieces::{kind_of, piece, spelling, KINDS};
 pub use rng::Rng;
 pub use text_lines::{plain_text, varied_text};

@@ -1,0 +1,81 @@
+/* Noferkash: Standard MIDI Files to MIDICSV text and back, proved.
+ *
+ * Link with libnoferkash.a (x86-64). Every answer is one number of 64 bits,
+ * number * 2^56 + place * 2^28 + length, which the macros below take apart.
+ *
+ * The caller owes:
+ * - a pointer is valid for as many bytes as the length beside it says, and is
+ *   not NULL, also where that length is 0;
+ * - no two slices of one call overlap, and nobody else writes the bytes of a
+ *   slice during the call.
+ *
+ * Promised in return, for all bytes and all lengths:
+ * - the call ends, and its answer depends on nothing but the bytes given;
+ * - input is read only, nothing outside the slices is read or written, and
+ *   nothing is kept after the call or allocated in it;
+ * - a refusal writes nothing.
+ */
+#ifndef NOFERKASH_H
+#define NOFERKASH_H
+
+#include <stddef.h>
+#include <stdint.h>
+
+#define NOFERKASH_VERSION "0.1.0"
+
+/* 0, or one of the refusal numbers. */
+#define NOFERKASH_NUMBER(answer) ((int)((uint64_t)(answer) >> 56))
+/* Where a refusal is: a byte of a file from 0 on, a line of a text from 1 on. */
+#define NOFERKASH_PLACE(answer) ((size_t)((uint64_t)(answer) >> 28 & 0xFFFFFFF))
+/* The length written; with NOFERKASH_ROOM_TOO_SMALL the length needed. */
+#define NOFERKASH_LENGTH(answer) ((size_t)((uint64_t)(answer) & 0xFFFFFFF))
+
+#ifdef __cplusplus
+extern "C" {
+#endif
+
+/* After each semicolon stands the place; "chunk" and "event" are the first byte
+ * of a track's chunk and of an event's delta. */
+enum noferkash_number {
+    NOFERKASH_OK = 0,
+
+    /* Of files; places are bytes. */
+    NOFERKASH_FILE_TOO_LONG = 1,           /* over 1,048,576 bytes; 0 */
+    NOFERKASH_FILE_CUT_SHORT = 2,          /* header, track start or track past the end; 0 or chunk */
+    NOFERKASH_BAD_HEADER = 3,              /* tag, length, format, count, division; 0, 4, 8, 10, 12 */
+    NOFERKASH_BAD_TRACK_TAG = 4,           /* not MTrk; chunk */
+    NOFERKASH_VARIABLE_TOO_LONG = 5,       /* variable-length number over four bytes; event */
+    NOFERKASH_EVENT_CUT_SHORT = 6,         /* needs a byte past the track's end; event */
+    NOFERKASH_TIME_TOO_GREAT = 7,          /* over 4,294,967,295; event */
+    NOFERKASH_BAD_STATUS = 8,              /* no status in force, F1..F6, F8..FE, meta over 127; event */
+    NOFERKASH_BAD_CHANNEL_DATA = 9,        /* over 127; event */
+    NOFERKASH_BAD_META_LENGTH = 10,        /* of a meta event of fixed length; event */
+    NOFERKASH_BAD_META_VALUE = 11,         /* out of range; event */
+    NOFERKASH_BYTES_AFTER_END_TRACK = 12,  /* in the same track; first such byte */
+    NOFERKASH_BYTES_AFTER_LAST_TRACK = 13, /* first such byte */
+
+    /* Of lent room; place 0, and the length needed. */
+    NOFERKASH_ROOM_TOO_SMALL = 14,
+
+    /* Of texts; places are lines, 0 where the whole is at fault. */
+    NOFERKASH_TEXT_TOO_LONG = 21,        /* over 33,554,432 bytes; 0 */
+    NOFERKASH_BAD_FIELD = 22,            /* no number, name or quoted text */
+    NOFERKASH_UNKNOWN_RECORD = 23,       /* third field not a listed name */
+    NOFERKASH_WRONG_FIELD_COUNT = 24,    /* too many or too few */
+    NOFERKASH_FIELD_OUT_OF_RANGE = 25,   /* or of wrong shape */
+    NOFERKASH_RECORD_OUT_OF_ORDER = 26,  /* not permitted there, or Time falling */
+    NOFERKASH_STEP_TOO_GREAT = 27,       /* in Time, over 268,435,455 */
+    NOFERKASH_TEXT_CUT_SHORT = 28,       /* ends before End_of_file; line count + 1 */
+    NOFERKASH_WRITTEN_TOO_LONG = 29,     /* file would pass 1,048,576 bytes; 0 */
+    NOFERKASH_BAD_MANNER = 30            /* neither 0 nor 1; 0 */
+};
+
+/* Is this a good file? NOFERKASH_OK, or the earliest fault and its place.
+ * Length is always 0. */
+uint64_t noferkash_check(const uint8_t *file, size_t file_len);
+
+#ifdef __cplusplus
+}
+#endif
+
+#endif

@@ -1,0 +1,77 @@
+//! The comparing itself: that it sees each fault which it is there for.
+
+use second::compare::{Difference, Operation};
+use second::generate::{file_case, text_case};
+use second::operations::{text_to_file, tidy};
+
+const GOOD: Operation = Operation {
+    name: "tidy",
+    second: |file, _, room| tidy(file, room),
+    archive: |file, _, room| tidy(file, room).packed(),
+};
+
+type Archive = fn(&mut [u8], u32, &mut [u8]) -> u64;
+
+/// What is said of each difference over many files.
+fn said(archive: Archive) -> Vec<&'static str> {
+    let operation = Operation { archive, ..GOOD };
+    let compared = (0..200).map(|seed| operation.compare(seed, &file_case(seed)));
+    compared.filter_map(Result::err).map(|difference: Difference| difference.what).collect()
+}
+
+fn seen(what: &str, archive: Archive) {
+    let said = said(archive);
+    assert!(!said.is_empty() && said.iter().all(|word| *word == what), "{what}: {said:?}");
+}
+
+#[test]
+fn equals_do_not_differ() {
+    assert!(said(GOOD.archive).is_empty());
+}
+
+#[test]
+fn each_part_of_an_answer_counts() {
+    seen("answers", |file, _, room| tidy(file, room).packed() + 1);
+    seen("answers", |file, _, room| tidy(file, room).packed() + (1 << 28));
+    seen("answers", |file, _, room| tidy(file, room).packed() + (1 << 56));
+}
+
+#[test]
+fn a_changed_input_is_seen() {
+    seen("input written", |file, _, room| {
+        let answer = tidy(file, room).packed();
+        file.iter_mut().take(1).for_each(|byte| *byte ^= 1);
+        answer
+    });
+}
+
+#[test]
+fn what_is_written_counts() {
+    let what = "room or the bytes round it";
+    // Wrong bytes, bytes past the length or in spite of a refusal, none at all.
+    seen(what, |file, _, room| {
+        let answer = tidy(file, room);
+        room.iter_mut().take(answer.length).for_each(|byte| *byte ^= 1);
+        answer.packed()
+    });
+    seen(what, |file, _, room| {
+        let answer = tidy(file, room);
+        room.iter_mut().skip(answer.length).for_each(|byte| *byte = 0);
+        answer.packed()
+    });
+    seen(what, |file, _, room| tidy(file, &mut room.to_vec()).packed());
+}
+
+#[test]
+fn manner_and_room_reach_both() {
+    let operation = Operation {
+        name: "text_to_file",
+        second: text_to_file,
+        archive: |text, manner, room| text_to_file(text, manner, room).packed(),
+    };
+    let numbers: Vec<u8> =
+        (0..500).map(|seed| operation.compare(seed, &text_case(seed)).unwrap()).collect();
+    for number in [0, 14, 30] {
+        assert!(numbers.contains(&number), "{number} never met");
+    }
+}
