@@ -1,0 +1,51 @@
+// Lists the tracks of a few files: list_tracks has no C face, so it is run here.
+use libc::STDOUT_FILENO;
+
+fn number(n: u64) {
+    io::print_decimal(STDOUT_FILENO, n);
+    io::write_all(STDOUT_FILENO, b" ");
+}
+
+fn entry(n: u32) {
+    number(n as u64);
+}
+
+fn numbers(list: &[u32; 4]) {
+    entry(list[0]);
+    entry(list[1]);
+    entry(list[2]);
+    entry(list[3]);
+    io::write_all(STDOUT_FILENO, b"\n");
+}
+
+// One file: number, place and length of the answer, then both lists, which hold sevens before.
+fn list_file(path: &[u8]) {
+    let mut buffer = io::large_buffer();
+    let fd = os::open_read(path);
+    if fd < 0 {
+        os::fail(path);
+        return;
+    }
+    let got = io::read_full(fd, &mut buffer);
+    libc::close(fd);
+    let mut ends = [7u32; 4];
+    let mut counts = [7u32; 4];
+    let answer = smf::list::list_tracks(&buffer[..got], &mut ends, &mut counts);
+    io::write_all(STDOUT_FILENO, path);
+    io::write_all(STDOUT_FILENO, b": ");
+    number(answer.number as u64);
+    number(answer.place as u64);
+    number(answer.length as u64);
+    io::write_all(STDOUT_FILENO, b"\n");
+    numbers(&ends);
+    numbers(&counts);
+}
+
+fn main() {
+    list_file(b"example.mid");
+    list_file(b"three_tracks.mid");
+    list_file(b"format2.mid");
+    list_file(b"five_tracks.mid");
+    list_file(b"after_end_track.mid");
+    list_file(b"empty.mid");
+}
