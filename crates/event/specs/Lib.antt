@@ -6,6 +6,7 @@ pub mod Event
 pub mod Frame
 pub mod Spelling
 pub mod Layout
+pub mod Manner
 pub mod Outcome
 pub mod Reader
 pub mod Readings

@@ -14,7 +14,8 @@ use Rattle.event.proofs.NumberLaws.{least-fits}
 use Rattle.smf.specs.Piece.{Piece, LawfulPiece}
 use Rattle.smf.specs.Spelling.{PieceSpelling, PermittedEvents, PermittedTracks, PermittedPiece}
 use Rattle.smf.specs.Layout.{ShortTracks}
-use Rattle.smf.specs.Manner.{Manner, full, short, statusIn, restIn, spellEvents, spellTracks, spelling, fileOf}
+use Rattle.event.specs.Manner.{Manner, full, short, statusIn, restIn, spellEvent}
+use Rattle.smf.specs.Manner.{spellEvents, spellTracks, spelling, fileOf}
 use Rattle.smf.specs.Reader.{readPiece}
 use Rattle.smf.proofs.FileLaws.{piece-read}
 
@@ -42,7 +43,7 @@ rest-permitted m force (meta t d) (lengthIn w) p = least-fits w (length d) p
 
 pub events-permitted : (m : Manner) (prev force : ℕ) (es : List Event) (ss : List Spelling) → PermittedEvents prev force es ss
     → PermittedEvents prev force es (spellEvents m prev force es)
-unfolding PermittedEvents spellEvents
+unfolding PermittedEvents spellEvents spellEvent
 events-permitted m prev force [] ss p = tt
 events-permitted m prev force (e ∷ es) [] p = absurd p
 events-permitted m prev force (e ∷ es) (s ∷ ss) p = (
