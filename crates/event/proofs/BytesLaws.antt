@@ -32,15 +32,6 @@ pub length-bigEndian : (k n : ℕ) → length (bigEndian k n) ≡ k
 unfolding bigEndian
 length-bigEndian k n = length-onto k n [] ∙ omega arith
 
-bytes-onto : (k n : ℕ) (l : List ℕ) → Bytes l → Bytes (bytesOnto k n l)
-unfolding bytesOnto
-bytes-onto zero n l b = b
-bytes-onto (suc k) n l b = bytes-onto k (n / 256) (n % 256 ∷ l) (omega arith, b)
-
-pub bytes-bigEndian : (k n : ℕ) → Bytes (bigEndian k n)
-unfolding bigEndian
-bytes-bigEndian k n = bytes-onto k n [] tt
-
 horner-onto : (k n : ℕ) (l : List ℕ) → n < below k → horner 0 (bytesOnto k n l) ≡ horner n l
 unfolding bytesOnto horner
 horner-onto zero n l h = ap (λ m. horner m l) (omega arith)

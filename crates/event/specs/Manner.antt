@@ -1,7 +1,7 @@
 -- "Two manners of writing: 0 full (every status byte written), 1 short (a status left out wherever permitted)", as the spelling of
 -- one event.
 use Prim.Native.Nat.{ℕ, _-_}
-use mathlib.Core.Bool.{Bool, true, false}
+use mathlib.Core.Bool.{false}
 use lib.ListN.{length}
 use lib.Dec.{eqb}
 use Rattle.event.specs.Number.{least}

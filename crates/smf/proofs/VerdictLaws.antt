@@ -30,16 +30,14 @@ head-bad n k p (ok h r) e = let w : _≡_ {A = ℕ} 0 1 = cc in absurd (omega ar
 head-bad n k p (refused j z) e = let a : j ≡ k = cc in let b : z ≡ p = cc in cc
 
 -- the header that was read, and the place after it
-pub record HeadAt (s : List ℕ) (format count : ℕ) (division : Division) (next : ℕ) : Type 0 where
+pub record HeadAt (s : List ℕ) (count next : ℕ) : Type 0 where
   pub header : Header
   pub read : readHeader s ≡ ok header (drop next s)
-  pub sameFormat : header .format ≡ format
   pub sameCount : header .count ≡ count
-  pub sameDivision : header .division .pulses ≡ division .0
   pub place : next ≡ 14
   pub inside : next ≤ length s
 
-head-came : (s : List ℕ) (a b : ℕ) (d : Division) (n : ℕ) (m : Outcome Header) → Bytes s → readHeader s ≡ m → headerStep (length s) m ≡ Fields a b d n → HeadAt s a b d n
+head-came : (s : List ℕ) (a b : ℕ) (d : Division) (n : ℕ) (m : Outcome Header) → Bytes s → readHeader s ≡ m → headerStep (length s) m ≡ Fields a b d n → HeadAt s b n
 unfolding headerStep
 head-came s a b d n (ok h r) bs come e =
     let laid = header-sound s h r bs come in
@@ -47,20 +45,17 @@ head-came s a b d n (ok h r) bs come e =
     let count : length s - length r ≡ 14 = omega arith in
     let back : drop (length s - length r) s ≡ r = ap (λ k. drop k s) count ∙ ap (drop 14) (laid .bytes) ∙ header-rest (h .format) (h .count) (h .division) r in
     let pn : length s - length r ≡ n = cc in
-    let pd : record { 0 = h .division .pulses } ≡ d = cc in
     let rest : r ≡ drop n s = cc in
     record {
       header = h;
       read = come ∙ ap (ok h) rest;
-      sameFormat = cc;
       sameCount = cc;
-      sameDivision = ap (λ (z : Division). z .0) pd;
       place = omega arith;
       inside = omega arith;
     }
 head-came s a b d n (refused k z) bs come e = let w : _≡_ {A = ℕ} 0 1 = cc in absurd (omega arith)
 
-pub head-at : (s : List ℕ) (a b : ℕ) (d : Division) (n : ℕ) → Bytes s → headerStep (length s) (readHeader s) ≡ Fields a b d n → HeadAt s a b d n
+pub head-at : (s : List ℕ) (a b : ℕ) (d : Division) (n : ℕ) → Bytes s → headerStep (length s) (readHeader s) ≡ Fields a b d n → HeadAt s b n
 head-at s a b d n bs e = head-came s a b d n _ bs refl e
 
 tracks-bad : (n k p : ℕ) (m : Outcome (List (List Event))) → tracksStep n m ≡ BadTracks k p → m ≡ refused k p
