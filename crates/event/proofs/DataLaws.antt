@@ -8,15 +8,16 @@ use lib.Seq.{take-append-seam}
 use borrow.Author.Tests.{le-leb}
 use Rattle.event.specs.Choice.{pick}
 use Rattle.event.specs.Number.{vlq}
-use Rattle.event.specs.Event.{Event}
+use Rattle.event.specs.Event.{Event, Lawful, Kind, noteOff, noteOn, polyAftertouch, control, program, channelAftertouch, pitchBend, systemExclusive, systemExclusivePacket, sequenceNumber, text, channelPrefix, midiPort, endTrack, tempo, smpteOffset, timeSignature, keySignature, sequencerSpecific, unknownMeta, Fits}
 use Rattle.event.specs.Frame.{Frame, channel1, channel2, exclusive, meta, frame}
 use Rattle.event.specs.Spelling.{Rest, leftOut, lengthIn, Spelling, Spelled, Permitted}
 use Rattle.event.specs.Layout.{layFrame, layEvent}
-use Rattle.event.specs.Step.{dataAt}
+use Rattle.event.specs.Step.{kindAt, kindFrom, dataAt}
+use Rattle.event.proofs.KindLaws.{key-back}
 use Rattle.event.proofs.PlaceLaws.{place}
 
 -- the data of a system exclusive or meta event
-unfoldable pub frameData : Frame → List ℕ
+unfoldable frameData : Frame → List ℕ
 frameData (channel1 s a) = []
 frameData (channel2 s a b) = []
 frameData (exclusive s d) = d
@@ -48,7 +49,7 @@ data-from body pre d r at e h =
       take-append-seam d r,
     )
 
-pub event-data : (prev force : ℕ) (e : Event) (s : Spelling) (body r : List ℕ) (at : ℕ) → Permitted prev force e s → drop at body ≡ layEvent prev e s ++ r → at ≤ length body
+event-data : (prev force : ℕ) (e : Event) (s : Spelling) (body r : List ℕ) (at : ℕ) → Permitted prev force e s → drop at body ≡ layEvent prev e s ++ r → at ≤ length body
     → dataAt body (length body - length r - length (frameData (frame (e .kind)))) (length (frameData (frame (e .kind)))) ≡ frameData (frame (e .kind))
 unfolding layEvent
 event-data prev force e s body r at p q h =
@@ -57,3 +58,34 @@ event-data prev force e s body r at p q h =
     let v : List ℕ = vlq (s .delta) (e .time - prev) in
     let whole : drop at body ≡ v ++ pre ++ (d ++ r) = q ∙ ap (λ z. v ++ z ++ r) ends ∙ ap (λ z. z ++ r) (sym (append-assoc v pre d)) ∙ append-assoc (v ++ pre) d r in
     data-from body (v ++ pre) d r at whole h
+
+-- ---- a kind and its data
+
+kind-from : (body : List ℕ) (next : ℕ) (k : Kind) → Fits k → dataAt body (next - length (frameData (frame k))) (length (frameData (frame k))) ≡ frameData (frame k)
+    → kindFrom body (kindAt next k) ≡ k
+unfolding kindFrom kindAt frameData frame Fits
+kind-from body next (noteOff c k v) f h = refl
+kind-from body next (noteOn c k v) f h = refl
+kind-from body next (polyAftertouch c k v) f h = refl
+kind-from body next (control c k v) f h = refl
+kind-from body next (program c p) f h = refl
+kind-from body next (channelAftertouch c v) f h = refl
+kind-from body next (pitchBend c v) f h = refl
+kind-from body next (systemExclusive d) f h = ap systemExclusive h
+kind-from body next (systemExclusivePacket d) f h = ap systemExclusivePacket h
+kind-from body next (sequenceNumber n) f h = refl
+kind-from body next (text t d) f h = ap (text t) h
+kind-from body next (channelPrefix n) f h = refl
+kind-from body next (midiPort n) f h = refl
+kind-from body next endTrack f h = refl
+kind-from body next (tempo n) f h = refl
+kind-from body next (smpteOffset a m s x u) f h = refl
+kind-from body next (timeSignature n d c b) f h = refl
+kind-from body next (keySignature k m) f h = ap (λ z. keySignature z m) (key-back k (f .0))
+kind-from body next (sequencerSpecific d) f h = ap sequencerSpecific h
+kind-from body next (unknownMeta t d) f h = ap (unknownMeta t) h
+
+-- the kind of an event that was read, by its answer, with the data that stand in the body
+pub kind-there : (prev force : ℕ) (e : Event) (s : Spelling) (body r : List ℕ) (at : ℕ) → Lawful prev e → Permitted prev force e s → drop at body ≡ layEvent prev e s ++ r → at ≤ length body
+    → kindFrom body (kindAt (length body - length r) (e .kind)) ≡ e .kind
+kind-there prev force e s body r at l p q h = kind-from body (length body - length r) (e .kind) (l .fits) (event-data prev force e s body r at p q h)

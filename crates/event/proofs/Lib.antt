@@ -14,3 +14,4 @@ pub mod RowLaws
 pub mod StatusLaws
 pub mod StepLaws
 pub mod DataLaws
+pub mod MannerLaws

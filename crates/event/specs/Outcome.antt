@@ -24,3 +24,13 @@ module _ {A : Type 0} where
   unfoldable pub placed : ℕ → Outcome A → Outcome A
   placed p (ok a l) = ok a l
   placed p (refused n q) = refused n p
+
+  -- it is no refusal
+  unfoldable pub Readable : Outcome A → Type 0
+  Readable (ok a l) = Unit {0}
+  Readable (refused n p) = ⊥
+
+  -- the value read, or z of a refusal
+  unfoldable pub valueOr : A → Outcome A → A
+  valueOr z (ok a l) = a
+  valueOr z (refused n p) = z

@@ -9,10 +9,11 @@ use Rattle.event.specs.Choice.{pick}
 use Rattle.event.specs.Outcome.{Outcome, ok, refused}
 use Rattle.event.specs.Event.{Event, Kind, noteOff, noteOn, polyAftertouch, control, program, channelAftertouch, pitchBend, systemExclusive, systemExclusivePacket, sequenceNumber, text, channelPrefix, midiPort, endTrack, tempo, smpteOffset, timeSignature, keySignature, sequencerSpecific, unknownMeta}
 use Rattle.event.specs.Frame.{Frame, frame, after, keyByte}
-use Rattle.event.specs.Reader.{kindIn}
+use Rattle.event.specs.Reader.{keyOf, kindIn}
 use Rattle.event.specs.declared.Time.{Time}
 use Rattle.event.specs.declared.EventKind.{EventKind}
 use Rattle.event.specs.declared.EventKind.the-variants.{NoteOff, NoteOn, PolyAftertouch, Control, Program, ChannelAftertouch, PitchBend, SystemExclusive, SystemExclusivePacket, SequenceNumber, Text, ChannelPrefix, MidiPort, EndTrack, Tempo, SmpteOffset, TimeSignature, KeySignature, SequencerSpecific, UnknownMeta}
+use Rattle.event.specs.declared.DataPlace.{DataPlace}
 use Rattle.event.specs.declared.NumberStep.{NumberStep}
 use Rattle.event.specs.declared.NumberStep.the-variants.{Value, Unread}
 use Rattle.event.specs.declared.ByteStep.{ByteStep}
@@ -97,3 +98,49 @@ eventStep n (refused k p) = Stop k
 -- the len bytes of s from the place start on, or none where they are not all there
 unfoldable pub dataAt : List ℕ → ℕ → ℕ → List ℕ
 dataAt s start len = pick (leb start (length s)) (pick (leb len (length s - start)) (take len (drop start s)) []) []
+
+-- the kind and fields of an answer, with the data bytes that stand in the track's body at its place and length
+unfoldable pub kindFrom : List ℕ → EventKind → Kind
+kindFrom body (NoteOff c k v) = noteOff c k v
+kindFrom body (NoteOn c k v) = noteOn c k v
+kindFrom body (PolyAftertouch c k v) = polyAftertouch c k v
+kindFrom body (Control c k v) = control c k v
+kindFrom body (Program c p) = program c p
+kindFrom body (ChannelAftertouch c v) = channelAftertouch c v
+kindFrom body (PitchBend c v) = pitchBend c v
+kindFrom body (SystemExclusive start len) = systemExclusive (dataAt body start len)
+kindFrom body (SystemExclusivePacket start len) = systemExclusivePacket (dataAt body start len)
+kindFrom body (SequenceNumber n) = sequenceNumber n
+kindFrom body (Text t start len) = text t (dataAt body start len)
+kindFrom body (ChannelPrefix n) = channelPrefix n
+kindFrom body (MidiPort n) = midiPort n
+kindFrom body EndTrack = endTrack
+kindFrom body (Tempo n) = tempo n
+kindFrom body (SmpteOffset h m s f u) = smpteOffset h m s f u
+kindFrom body (TimeSignature n d c b) = timeSignature n d c b
+kindFrom body (KeySignature k m) = keySignature (keyOf k) m
+kindFrom body (SequencerSpecific start len) = sequencerSpecific (dataAt body start len)
+kindFrom body (UnknownMeta t start len) = unknownMeta t (dataAt body start len)
+
+-- where the data of an event stand; an event without data has none, at 0
+unfoldable pub placeOf : EventKind → DataPlace
+placeOf (NoteOff c k v) = record { start = 0; len = 0 }
+placeOf (NoteOn c k v) = record { start = 0; len = 0 }
+placeOf (PolyAftertouch c k v) = record { start = 0; len = 0 }
+placeOf (Control c k v) = record { start = 0; len = 0 }
+placeOf (Program c p) = record { start = 0; len = 0 }
+placeOf (ChannelAftertouch c v) = record { start = 0; len = 0 }
+placeOf (PitchBend c v) = record { start = 0; len = 0 }
+placeOf (SystemExclusive start len) = record { start = start; len = len }
+placeOf (SystemExclusivePacket start len) = record { start = start; len = len }
+placeOf (SequenceNumber n) = record { start = 0; len = 0 }
+placeOf (Text t start len) = record { start = start; len = len }
+placeOf (ChannelPrefix n) = record { start = 0; len = 0 }
+placeOf (MidiPort n) = record { start = 0; len = 0 }
+placeOf EndTrack = record { start = 0; len = 0 }
+placeOf (Tempo n) = record { start = 0; len = 0 }
+placeOf (SmpteOffset h m s f u) = record { start = 0; len = 0 }
+placeOf (TimeSignature n d c b) = record { start = 0; len = 0 }
+placeOf (KeySignature k m) = record { start = 0; len = 0 }
+placeOf (SequencerSpecific start len) = record { start = start; len = len }
+placeOf (UnknownMeta t start len) = record { start = start; len = len }

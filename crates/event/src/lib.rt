@@ -138,6 +138,12 @@ pub enum EventKind {
     },
 }
 
+// Where the data bytes of an event stand in the track's body, and how many they are.
+pub struct DataPlace {
+    pub start: usize,
+    pub len: usize,
+}
+
 // What reading a variable-length number answers: its value and the place after it, or a refusal.
 pub enum NumberStep {
     Value { value: u32, next: usize },

@@ -2,7 +2,8 @@
 ghost use mathlib.Core.Path.{_≡_};
 ghost use lib.ListN.{length, drop};
 ghost use Rattle.event.specs.Reader.{readFrame, readEvent};
-ghost use Rattle.event.specs.Step.{frameStep, eventStep, endOf};
+ghost use Rattle.event.specs.Step.{frameStep, eventStep, endOf, placeOf};
+use super::DataPlace;
 use super::Delta;
 use super::EventKind;
 use super::EventStep;
@@ -65,5 +66,19 @@ pub fn is_end(kind: EventKind) -> bool
     match kind {
         EventKind::EndTrack => true,
         _ => false,
+    }
+}
+
+// Where the data of the event stand; of an event without data none.
+pub fn data_place(kind: EventKind) -> DataPlace
+    ensures { λ r. ⌜ r ≡ placeOf kind ⌝ }
+{
+    match kind {
+        EventKind::SystemExclusive { start, len } => DataPlace { start, len },
+        EventKind::SystemExclusivePacket { start, len } => DataPlace { start, len },
+        EventKind::Text { kind, start, len } => DataPlace { start, len },
+        EventKind::SequencerSpecific { start, len } => DataPlace { start, len },
+        EventKind::UnknownMeta { kind, start, len } => DataPlace { start, len },
+        _ => DataPlace { start: 0, len: 0 },
     }
 }

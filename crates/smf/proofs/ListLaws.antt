@@ -11,7 +11,7 @@ use borrow.Author.Tests.{le-leb, lt-leb}
 use Rattle.event.specs.Bytes.{Bytes}
 use Rattle.event.specs.Choice.{pick}
 use Rattle.event.specs.Event.{Event}
-use Rattle.event.specs.Outcome.{Outcome, ok, refused, andThen}
+use Rattle.event.specs.Outcome.{Outcome, ok, refused, andThen, Readable, valueOr}
 use Rattle.event.specs.declared.Time.{Time}
 use Rattle.event.proofs.OutcomeLaws.{ok-same, andThen-ok, check-ok}
 use Rattle.event.proofs.RefusalLaws.{Fair}
@@ -19,7 +19,7 @@ use Rattle.smf.specs.Piece.{Piece}
 use Rattle.smf.specs.Reader.{readTrack, readTracks, readHeader, readPiece, readFile}
 use Rattle.smf.specs.Answer.{success, roomNeeded, verdict}
 use Rattle.smf.specs.Step.{headerStep, lastTime, trackStep}
-use Rattle.smf.specs.Listing.{endTimes, eventCounts, hasRoom, listAnswer, listLeaves, tracksIn, Readable}
+use Rattle.smf.specs.Listing.{endTimes, eventCounts, hasRoom, listAnswer, listLeaves}
 use Rattle.smf.specs.declared.Answer.{Answer}
 use Rattle.smf.specs.declared.Division.{Division}
 use Rattle.smf.specs.declared.HeaderStep.the-variants.{Fields, BadHeader}
@@ -38,8 +38,8 @@ unfolding Readable andThen
 cons-readable t (ok ts q) h = tt
 cons-readable t (refused n p) h = h
 
-cons-tracks : (t : List Event) (k : Outcome (List (List Event))) → Readable k → tracksIn (andThen k (λ ts q. ok (t ∷ ts) q)) ≡ t ∷ tracksIn k
-unfolding Readable andThen tracksIn
+cons-tracks : (t : List Event) (k : Outcome (List (List Event))) → Readable k → valueOr [] (andThen k (λ ts q. ok (t ∷ ts) q)) ≡ t ∷ valueOr [] k
+unfolding Readable andThen valueOr
 cons-tracks t (ok ts q) h = refl
 cons-tracks t (refused n p) h = absurd h
 
@@ -55,8 +55,8 @@ list-bad s (suc n) at k p z e h = rw (track-bad (length s) k p (readTrack at (dr
 pub record Listed (s : List ℕ) (left n at : ℕ) (t : Time) (c q : ℕ) : Type 0 where
   pub inside : q ≤ length s
   pub readable : Readable (R s n q)
-  pub times : endTimes (tracksIn (R s left at)) ≡ t .0 ∷ endTimes (tracksIn (R s n q))
-  pub counts : eventCounts (tracksIn (R s left at)) ≡ c ∷ eventCounts (tracksIn (R s n q))
+  pub times : endTimes (valueOr [] (R s left at)) ≡ t .0 ∷ endTimes (valueOr [] (R s n q))
+  pub counts : eventCounts (valueOr [] (R s left at)) ≡ c ∷ eventCounts (valueOr [] (R s n q))
 
 list-one : (s : List ℕ) (n at : ℕ) (t : Time) (c q : ℕ) → Bytes s → at ≤ length s → trackStep (length s) (readTrack at (drop at s)) ≡ Track t c q
     → Readable (R s (suc n) at) → Listed s (suc n) n at t c q
@@ -66,25 +66,25 @@ list-one s n at t c q bs h e w =
     let next : at + (length (drop at s) - length (drop q s)) ≡ q = simp length-drop (omega arith) in
     let step : readTracks (suc n) at (drop at s) ≡ andThen (R s n q) (λ ts r. ok (es ∷ ts) r) = rw (come, next) refl in
     let good : Readable (R s n q) = cons-readable es (R s n q) (rw step at w) in
-    let all : tracksIn (R s (suc n) at) ≡ es ∷ tracksIn (R s n q) = ap tracksIn step ∙ cons-tracks es (R s n q) good in
+    let all : valueOr [] (R s (suc n) at) ≡ es ∷ valueOr [] (R s n q) = ap (valueOr []) step ∙ cons-tracks es (R s n q) good in
     let time : lastTime 0 es ≡ t .0 = ap (λ (x : Time). x .0) pt in
     record {
       inside = hi;
       readable = good;
-      times = ap endTimes all ∙ ap (λ x. x ∷ endTimes (tracksIn (R s n q))) time;
-      counts = ap eventCounts all ∙ ap (λ x. x ∷ eventCounts (tracksIn (R s n q))) pc;
+      times = ap endTimes all ∙ ap (λ x. x ∷ endTimes (valueOr [] (R s n q))) time;
+      counts = ap eventCounts all ∙ ap (λ x. x ∷ eventCounts (valueOr [] (R s n q))) pc;
     })
 
 pub list-next : (s : List ℕ) (left n at : ℕ) (t : Time) (c q : ℕ) → left ≡ suc n → Bytes s → at ≤ length s → trackStep (length s) (readTrack at (drop at s)) ≡ Track t c q
     → Readable (R s left at) → Listed s left n at t c q
 list-next s left n at t c q e bs h g w = rw e (list-one s n at t c q bs h g (rw e at w))
 
-none-left : (s : List ℕ) (left at : ℕ) → left ≤ 0 → tracksIn (R s left at) ≡ []
-unfolding readTracks tracksIn
+none-left : (s : List ℕ) (left at : ℕ) → left ≤ 0 → valueOr [] (R s left at) ≡ []
+unfolding readTracks valueOr
 none-left s zero at h = refl
 none-left s (suc n) at h = absurd (omega arith)
 
-pub list-none : (f : List (List Event) → List ℕ) (s : List ℕ) (left at : ℕ) (now : List ℕ) (i : ℕ) → f [] ≡ [] → left ≤ 0 → sets now i (f (tracksIn (R s left at))) ≡ now
+pub list-none : (f : List (List Event) → List ℕ) (s : List ℕ) (left at : ℕ) (now : List ℕ) (i : ℕ) → f [] ≡ [] → left ≤ 0 → sets now i (f (valueOr [] (R s left at))) ≡ now
 list-none f s left at now i e h = rw (none-left s left at h, e) refl
 
 -- ---- the answers
@@ -157,12 +157,12 @@ module _ (s : List ℕ) (b n : ℕ) (there : Accepted s b n) where
     fine-answer = rw (there .read, there .count, fits) refl
 
     pub fine-leaves : (f : List (List Event) → List ℕ) (old : List ℕ) → ((ts : List (List Event)) → length (f ts) ≡ length ts) → b ≤ length old
-        → sets old 0 (f (tracksIn (R s b n))) ≡ listLeaves f x y (readFile s) old
-    unfolding listLeaves pick tracksIn
+        → sets old 0 (f (valueOr [] (R s b n))) ≡ listLeaves f x y (readFile s) old
+    unfolding listLeaves pick valueOr
     fine-leaves f old same room =
         let size : length (f (there .piece .tracks)) ≡ b = same (there .piece .tracks) ∙ there .count in
         let past : 0 + length (f (there .piece .tracks)) ≡ b = omega arith in
-        ap (λ z. sets old 0 (f (tracksIn z))) (there .tracks)
+        ap (λ z. sets old 0 (f (valueOr [] z))) (there .tracks)
         ∙ sets-eq (f (there .piece .tracks)) old 0 (omega arith)
         ∙ rw (there .read, there .count, fits, past) refl
 

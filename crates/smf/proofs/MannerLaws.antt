@@ -1,55 +1,31 @@
 -- The two manners: each spelling is permitted where any is, so its file is a layout and reads back.
-use mathlib.Core.Path.{_≡_, refl, ap}
-use Prim.Native.Nat.{ℕ, _-_}
-use mathlib.Core.Bool.{Bool, true, false, false≢true}
+use mathlib.Core.Path.{_≡_, refl, sym, ap, _∙_}
+use Prim.Native.Nat.{ℕ, _≤_}
 use mathlib.Core.List.{List, [], _∷_}
 use native.Mathlib.Omega.{arith}
-use lib.ListN.{length}
-use borrow.Author.Tests.{eqb-true, eq-eqb}
+use lib.ListN.{length, length-append}
 use Rattle.event.specs.Event.{Event}
-use Rattle.event.specs.Frame.{Frame, channel1, channel2, exclusive, meta, frame, after, noStatus}
-use Rattle.event.specs.Spelling.{Rest, leftOut, lengthIn, Spelling, Spelled}
+use Rattle.event.specs.Frame.{frame, after, noStatus}
+use Rattle.event.specs.Spelling.{Spelling}
 use Rattle.event.specs.Outcome.{ok}
-use Rattle.event.proofs.NumberLaws.{least-fits}
+use Rattle.event.proofs.BytesLaws.{length-bigEndian}
+use Rattle.event.proofs.MannerLaws.{event-permitted, short-event}
 use Rattle.smf.specs.Piece.{Piece, LawfulPiece}
 use Rattle.smf.specs.Spelling.{PieceSpelling, PermittedEvents, PermittedTracks, PermittedPiece}
-use Rattle.smf.specs.Layout.{ShortTracks}
-use Rattle.event.specs.Manner.{Manner, full, short, statusIn, restIn, spellEvent}
+use Rattle.smf.specs.Layout.{layEvents, layTrack, layTracks, layPiece, ShortTracks, LaidOut}
+use Rattle.event.specs.Manner.{Manner, short, spellEvent}
+use Rattle.event.specs.Layout.{layEvent}
 use Rattle.smf.specs.Manner.{spellEvents, spellTracks, spelling, fileOf}
 use Rattle.smf.specs.Reader.{readPiece}
-use Rattle.smf.proofs.FileLaws.{piece-read}
-
--- a status that a manner leaves out is in force
-one-permitted : (m : Manner) (force s a : ℕ) → Spelled force (channel1 s a) (statusIn m force s)
-unfolding Spelled statusIn
-one-permitted full force s a = λ z. absurd (false≢true z)
-one-permitted short force s a = λ z. eqb-true force s z
-
-two-permitted : (m : Manner) (force s a b : ℕ) → Spelled force (channel2 s a b) (statusIn m force s)
-unfolding Spelled statusIn
-two-permitted full force s a b = λ z. absurd (false≢true z)
-two-permitted short force s a b = λ z. eqb-true force s z
-
-rest-permitted : (m : Manner) (force : ℕ) (x : Frame) (s : Rest) → Spelled force x s → Spelled force x (restIn m force x)
-unfolding Spelled restIn
-rest-permitted m force (channel1 s a) (leftOut o) p = one-permitted m force s a
-rest-permitted m force (channel1 s a) (lengthIn w) p = absurd p
-rest-permitted m force (channel2 s a b) (leftOut o) p = two-permitted m force s a b
-rest-permitted m force (channel2 s a b) (lengthIn w) p = absurd p
-rest-permitted m force (exclusive s d) (leftOut o) p = absurd p
-rest-permitted m force (exclusive s d) (lengthIn w) p = least-fits w (length d) p
-rest-permitted m force (meta t d) (leftOut o) p = absurd p
-rest-permitted m force (meta t d) (lengthIn w) p = least-fits w (length d) p
+use Rattle.smf.proofs.FileLaws.{header-size, piece-read}
 
 pub events-permitted : (m : Manner) (prev force : ℕ) (es : List Event) (ss : List Spelling) → PermittedEvents prev force es ss
     → PermittedEvents prev force es (spellEvents m prev force es)
-unfolding PermittedEvents spellEvents spellEvent
+unfolding PermittedEvents spellEvents
 events-permitted m prev force [] ss p = tt
 events-permitted m prev force (e ∷ es) [] p = absurd p
-events-permitted m prev force (e ∷ es) (s ∷ ss) p = (
-  record { delta = least-fits (s .delta) (e .time - prev) (p .0 .delta); rest = rest-permitted m force (frame (e .kind)) (s .rest) (p .0 .rest) },
-  events-permitted m (e .time) (after (frame (e .kind))) es ss (p .1),
-)
+events-permitted m prev force (e ∷ es) (s ∷ ss) p =
+    (event-permitted m prev force e s (p .0), events-permitted m (e .time) (after (frame (e .kind))) es ss (p .1))
 
 tracks-permitted : (m : Manner) (ts : List (List Event)) (ss : List (List Spelling)) → PermittedTracks ts ss → PermittedTracks ts (spellTracks m ts)
 unfolding PermittedTracks spellTracks
@@ -68,18 +44,68 @@ pub manner-read : (m : Manner) (p : Piece) (s : PieceSpelling) → LawfulPiece p
 unfolding fileOf
 manner-read m p s l h k = piece-read p (spelling m p) (record { lawful = l; permitted = manner-permitted m p s h; short = k })
 
--- "a status left out wherever permitted"
-pub short-omits : (force : ℕ) (x : Frame) → Spelled force x (leftOut true) → restIn short force x ≡ leftOut true
-unfolding Spelled restIn statusIn
-short-omits force (channel1 s a) p = ap leftOut (eq-eqb force s (p refl))
-short-omits force (channel2 s a b) p = ap leftOut (eq-eqb force s (p refl))
-short-omits force (exclusive s d) p = absurd p
-short-omits force (meta t d) p = absurd p
+-- ---- the short manner takes no more bytes than any permitted spelling
 
--- "every status byte written"
-pub full-writes : (force : ℕ) (x : Frame) (b : Bool) → restIn full force x ≡ leftOut b → b ≡ false
-unfolding restIn statusIn
-full-writes force (channel1 s a) b e = cc
-full-writes force (channel2 s a b₁) b e = cc
-full-writes force (exclusive s d) b e = let z : _≡_ {A = ℕ} 0 1 = cc in absurd (omega arith)
-full-writes force (meta t d) b e = let z : _≡_ {A = ℕ} 0 1 = cc in absurd (omega arith)
+pub short-events : (prev force : ℕ) (es : List Event) (ss : List Spelling) → PermittedEvents prev force es ss
+    → length (layEvents prev es (spellEvents short prev force es)) ≤ length (layEvents prev es ss)
+unfolding PermittedEvents spellEvents layEvents
+short-events prev force [] ss p = omega arith
+short-events prev force (e ∷ es) [] p = absurd p
+short-events prev force (e ∷ es) (s ∷ ss) p =
+    let f : ℕ = after (frame (e .kind)) in
+    omega (
+      arith,
+      length-append (layEvent prev e (spellEvent short prev force e)) (layEvents (e .time) es (spellEvents short (e .time) f es)),
+      length-append (layEvent prev e s) (layEvents (e .time) es ss),
+      short-event prev force e s (p .0),
+      short-events (e .time) f es ss (p .1),
+    )
+
+short-track : (es : List Event) (ss : List Spelling) → PermittedEvents 0 noStatus es ss → length (layTrack es (spellEvents short 0 noStatus es)) ≤ length (layTrack es ss)
+unfolding layTrack
+short-track es ss p = let h = short-events 0 noStatus es ss p in simp (length-append, length-bigEndian) (omega arith)
+
+short-tracks : (ts : List (List Event)) (ss : List (List Spelling)) → PermittedTracks ts ss → length (layTracks ts (spellTracks short ts)) ≤ length (layTracks ts ss)
+unfolding PermittedTracks spellTracks layTracks
+short-tracks [] ss p = omega arith
+short-tracks (t ∷ ts) [] p = absurd p
+short-tracks (t ∷ ts) (s ∷ ss) p =
+    omega (
+      arith,
+      length-append (layTrack t (spellEvents short 0 noStatus t)) (layTracks ts (spellTracks short ts)),
+      length-append (layTrack t s) (layTracks ts ss),
+      short-track t s (p .0),
+      short-tracks ts ss (p .1),
+    )
+
+pub short-file : (f : List ℕ) (p : Piece) → LaidOut f p → length (fileOf short p) ≤ length f
+unfolding fileOf spelling layPiece PermittedPiece
+short-file f p l =
+    let n : ℕ = length (p .tracks) in
+    omega (
+      arith,
+      header-size (p .format) n (p .division) (layTracks (p .tracks) (spellTracks short (p .tracks))),
+      ap length (sym (l .bytes)) ∙ header-size (p .format) n (p .division) (layTracks (p .tracks) (l .spelling .tracks)),
+      short-tracks (p .tracks) (l .spelling .tracks) (l .has .permitted),
+    )
+
+-- so the short manner's file of a piece that has a layout is a layout too
+short-short : (ts : List (List Event)) (ss : List (List Spelling)) → PermittedTracks ts ss → ShortTracks ts ss → ShortTracks ts (spellTracks short ts)
+unfolding PermittedTracks ShortTracks spellTracks
+short-short [] ss p h = tt
+short-short (t ∷ ts) [] p h = absurd p
+short-short (t ∷ ts) (s ∷ ss) p h = (omega (arith, short-events 0 noStatus t s (p .0), h .0), short-short ts ss (p .1) (h .1))
+
+pub short-laid : (f : List ℕ) (p : Piece) → LaidOut f p → LaidOut (fileOf short p) p
+unfolding fileOf spelling PermittedPiece
+short-laid f p l =
+    record {
+      spelling = spelling short p;
+      has =
+          record {
+            lawful = l .has .lawful;
+            permitted = manner-permitted short p (l .spelling) (l .has .permitted);
+            short = short-short (p .tracks) (l .spelling .tracks) (l .has .permitted) (l .has .short);
+          };
+      bytes = refl;
+    }

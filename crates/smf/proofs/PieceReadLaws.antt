@@ -6,23 +6,22 @@ use mathlib.Core.List.{List, [], _∷_}
 use native.Mathlib.Omega.{arith}
 use lib.ListN.{length, drop, length-drop}
 use Rattle.event.specs.Bytes.{Bytes}
-use Rattle.event.specs.Event.{Event, Kind, noteOff, noteOn, polyAftertouch, control, program, channelAftertouch, pitchBend, systemExclusive, systemExclusivePacket, sequenceNumber, text, channelPrefix, midiPort, endTrack, tempo, smpteOffset, timeSignature, keySignature, sequencerSpecific, unknownMeta, Fits, isEnd}
+use Rattle.event.specs.Event.{Event, isEnd}
 use Rattle.event.specs.Frame.{frame, after, noStatus}
 use Rattle.event.specs.Layout.{layEvent}
 use Rattle.event.specs.Outcome.{ok}
 use Rattle.event.specs.Reader.{readEvent}
-use Rattle.event.specs.Step.{kindAt, eventStep, dataAt}
+use Rattle.event.specs.Step.{kindAt, kindFrom, eventStep}
 use Rattle.event.proofs.OutcomeLaws.{not-ok, ok-same, andThen-ok, placed-ok}
 use Rattle.event.proofs.BytesLaws.{bytes-drop}
-use Rattle.event.proofs.KindLaws.{key-back}
 use Rattle.event.proofs.EventLaws.{event-sound, event-shorter}
 use Rattle.event.proofs.PlaceLaws.{place}
-use Rattle.event.proofs.DataLaws.{frameData, event-data}
+use Rattle.event.proofs.DataLaws.{kind-there}
 use Rattle.event.proofs.StepLaws.{end-of}
 use Rattle.smf.specs.Piece.{Piece}
 use Rattle.smf.specs.Reader.{readEvents, readAll, readChunk, readTrack, readTracks, readHeader, readPiece}
 use Rattle.smf.specs.Step.{headerStep, chunkStep}
-use Rattle.smf.specs.PieceRead.{kindFrom, untilEnd, eventsRead, trackRead, tracksRead, pieceFrom, pieceRead}
+use Rattle.smf.specs.PieceRead.{untilEnd, eventsRead, trackRead, tracksRead, pieceFrom, pieceRead}
 use Rattle.smf.specs.declared.ChunkStep.{ChunkStep}
 use Rattle.smf.specs.declared.ChunkStep.the-variants.{Body, BadChunk}
 use Rattle.smf.proofs.TrackLaws.{go-sound}
@@ -30,32 +29,6 @@ use Rattle.smf.proofs.FileLaws.{chunk-sound, more-sound}
 use Rattle.smf.proofs.RefusalLaws.{chunk-size}
 use Rattle.smf.proofs.ChunkLaws.{BodyAt, chunk-body}
 use Rattle.smf.proofs.VerdictLaws.{head-at}
-
--- ---- a kind and its data
-
-kind-from : (body : List ℕ) (next : ℕ) (k : Kind) → Fits k → dataAt body (next - length (frameData (frame k))) (length (frameData (frame k))) ≡ frameData (frame k)
-    → kindFrom body (kindAt next k) ≡ k
-unfolding kindFrom kindAt frameData frame Fits
-kind-from body next (noteOff c k v) f h = refl
-kind-from body next (noteOn c k v) f h = refl
-kind-from body next (polyAftertouch c k v) f h = refl
-kind-from body next (control c k v) f h = refl
-kind-from body next (program c p) f h = refl
-kind-from body next (channelAftertouch c v) f h = refl
-kind-from body next (pitchBend c v) f h = refl
-kind-from body next (systemExclusive d) f h = ap systemExclusive h
-kind-from body next (systemExclusivePacket d) f h = ap systemExclusivePacket h
-kind-from body next (sequenceNumber n) f h = refl
-kind-from body next (text t d) f h = ap (text t) h
-kind-from body next (channelPrefix n) f h = refl
-kind-from body next (midiPort n) f h = refl
-kind-from body next endTrack f h = refl
-kind-from body next (tempo n) f h = refl
-kind-from body next (smpteOffset a m s x u) f h = refl
-kind-from body next (timeSignature n d c b) f h = refl
-kind-from body next (keySignature k m) f h = ap (λ z. keySignature z m) (key-back k (f .0))
-kind-from body next (sequencerSpecific d) f h = ap sequencerSpecific h
-kind-from body next (unknownMeta t d) f h = ap (unknownMeta t) h
 
 -- ---- the events of a track
 
@@ -68,10 +41,7 @@ events-turn n body at prev force e r bs h come =
     let laid = event-sound prev force (drop at body) e r (bytes-drop body at bs) come in
     let next : ℕ = length body - length r in
     let rest : drop next body ≡ r = place body (layEvent prev e (laid .spelling)) r at (laid .bytes) in
-    let stands : dataAt body (next - length (frameData (frame (e .kind)))) (length (frameData (frame (e .kind)))) ≡ frameData (frame (e .kind)) =
-    event-data prev force e (laid .spelling) body r at (laid .permitted) (laid .bytes) h
-    in
-    let kind : kindFrom body (kindAt next (e .kind)) ≡ e .kind = kind-from body next (e .kind) (laid .lawful .fits) stands in
+    let kind : kindFrom body (kindAt next (e .kind)) ≡ e .kind = kind-there prev force e (laid .spelling) body r at (laid .lawful) (laid .permitted) (laid .bytes) h in
     rw (come, end-of next (e .kind), rest, kind) refl
 
 until-true : (b : Bool) (l : List Event) → b ≡ true → untilEnd b l ≡ []

@@ -35,13 +35,3 @@ listAnswer n m (refused k q) = refusal k q
 unfoldable pub listLeaves : (List (List Event) → List ℕ) → ℕ → ℕ → Outcome Piece → List ℕ → List ℕ
 listLeaves f n m (ok p r) old = pick (hasRoom n m (length (p .tracks))) (f (p .tracks) ++ drop (length (p .tracks)) old) old
 listLeaves f n m (refused k q) old = old
-
--- the tracks of an outcome; none of a refusal
-unfoldable pub tracksIn : Outcome (List (List Event)) → List (List Event)
-tracksIn (ok ts r) = ts
-tracksIn (refused k p) = []
-
--- it is no refusal
-unfoldable pub Readable : Outcome (List (List Event)) → Type 0
-Readable (ok ts r) = Unit {0}
-Readable (refused k p) = ⊥

@@ -6,12 +6,10 @@ use Prim.Native.Nat.{ℕ, zero, suc, _-_}
 use mathlib.Core.Bool.{Bool, true, false}
 use mathlib.Core.List.{List, [], _∷_}
 use lib.ListN.{length, take, drop}
-use Rattle.event.specs.Event.{Event, Kind, noteOff, noteOn, polyAftertouch, control, program, channelAftertouch, pitchBend, systemExclusive, systemExclusivePacket, sequenceNumber, text, channelPrefix, midiPort, endTrack, tempo, smpteOffset, timeSignature, keySignature, sequencerSpecific, unknownMeta}
+use Rattle.event.specs.Event.{Event}
 use Rattle.event.specs.Frame.{noStatus}
-use Rattle.event.specs.Reader.{readEvent, keyOf}
-use Rattle.event.specs.Step.{eventStep, endOf, dataAt}
-use Rattle.event.specs.declared.EventKind.{EventKind}
-use Rattle.event.specs.declared.EventKind.the-variants.{NoteOff, NoteOn, PolyAftertouch, Control, Program, ChannelAftertouch, PitchBend, SystemExclusive, SystemExclusivePacket, SequenceNumber, Text, ChannelPrefix, MidiPort, EndTrack, Tempo, SmpteOffset, TimeSignature, KeySignature, SequencerSpecific, UnknownMeta}
+use Rattle.event.specs.Reader.{readEvent}
+use Rattle.event.specs.Step.{eventStep, endOf, kindFrom}
 use Rattle.event.specs.declared.EventStep.{EventStep}
 use Rattle.event.specs.declared.EventStep.the-variants.{Read, Stop}
 use Rattle.smf.specs.Piece.{Piece}
@@ -21,29 +19,6 @@ use Rattle.smf.specs.declared.HeaderStep.{HeaderStep}
 use Rattle.smf.specs.declared.HeaderStep.the-variants.{Fields, BadHeader}
 use Rattle.smf.specs.declared.ChunkStep.{ChunkStep}
 use Rattle.smf.specs.declared.ChunkStep.the-variants.{Body, BadChunk}
-
--- the kind and fields of an answer, with the data bytes that stand in the track's body at its place and length
-unfoldable pub kindFrom : List ℕ → EventKind → Kind
-kindFrom body (NoteOff c k v) = noteOff c k v
-kindFrom body (NoteOn c k v) = noteOn c k v
-kindFrom body (PolyAftertouch c k v) = polyAftertouch c k v
-kindFrom body (Control c k v) = control c k v
-kindFrom body (Program c p) = program c p
-kindFrom body (ChannelAftertouch c v) = channelAftertouch c v
-kindFrom body (PitchBend c v) = pitchBend c v
-kindFrom body (SystemExclusive start len) = systemExclusive (dataAt body start len)
-kindFrom body (SystemExclusivePacket start len) = systemExclusivePacket (dataAt body start len)
-kindFrom body (SequenceNumber n) = sequenceNumber n
-kindFrom body (Text t start len) = text t (dataAt body start len)
-kindFrom body (ChannelPrefix n) = channelPrefix n
-kindFrom body (MidiPort n) = midiPort n
-kindFrom body EndTrack = endTrack
-kindFrom body (Tempo n) = tempo n
-kindFrom body (SmpteOffset h m s f u) = smpteOffset h m s f u
-kindFrom body (TimeSignature n d c b) = timeSignature n d c b
-kindFrom body (KeySignature k m) = keySignature (keyOf k) m
-kindFrom body (SequencerSpecific start len) = sequencerSpecific (dataAt body start len)
-kindFrom body (UnknownMeta t start len) = unknownMeta t (dataAt body start len)
 
 -- nothing after End_track
 unfoldable pub untilEnd : Bool → List Event → List Event

@@ -4,7 +4,9 @@ ghost use Prim.Native.Nat.{_≤_};
 ghost use lib.ListN.{length, drop};
 ghost use lib.Seq.{sets};
 ghost use Rattle.smf.specs.Reader.{readTracks, readFile};
-ghost use Rattle.smf.specs.Listing.{endTimes, eventCounts, listAnswer, listLeaves, tracksIn, Readable};
+ghost use Rattle.smf.specs.Listing.{endTimes, eventCounts, listAnswer, listLeaves};
+ghost use mathlib.Core.List.{[]};
+ghost use Rattle.event.specs.Outcome.{Readable, valueOr};
 use super::Answer;
 use super::HeaderStep;
 use super::TrackStep;
@@ -15,7 +17,7 @@ use super::track::read_track;
 // Fills both lists from the tracks at a place on, which are known to read.
 fn fill(file: &[u8], count: usize, first: usize, ends: &mut [u32], counts: &mut [u32])
     requires { ⌜ first ≤ length (now file) ⌝ ∗ ⌜ Readable (readTracks count first (drop first (now file))) ⌝ ∗ ⌜ count ≤ length (now ends) ⌝ ∗ ⌜ count ≤ length (now counts) ⌝ }
-    ensures { λ r. ⌜ now (ends .exit) ≡ sets (now (ends .entry)) 0 (endTimes (tracksIn (readTracks count first (drop first (now (file .entry)))))) ⌝ ∗ ⌜ now (counts .exit) ≡ sets (now (counts .entry)) 0 (eventCounts (tracksIn (readTracks count first (drop first (now (file .entry)))))) ⌝ }
+    ensures { λ r. ⌜ now (ends .exit) ≡ sets (now (ends .entry)) 0 (endTimes (valueOr [] (readTracks count first (drop first (now (file .entry)))))) ⌝ ∗ ⌜ now (counts .exit) ≡ sets (now (counts .entry)) 0 (eventCounts (valueOr [] (readTracks count first (drop first (now (file .entry)))))) ⌝ }
 {
     let mut at = first;
     let mut i: usize = 0;

@@ -1,8 +1,10 @@
+use mathlib.Core.List.{[]}
+use Rattle.event.specs.Outcome.{Readable, valueOr}
 use Prim.Native.Nat.{suc, _+_, _-_, _≤_}
 use lib.ListN.{length, length-set}
 use lib.Seq.{sets}
 use Rattle.event.proofs.BytesLaws.{bytes-of}
-use Rattle.smf.specs.Listing.{endTimes, eventCounts, tracksIn, Readable}
+use Rattle.smf.specs.Listing.{endTimes, eventCounts}
 use Rattle.smf.proofs.ListLaws.{R, list-bad, list-next, list-none, sets-step}
 use native.Mathlib.Omega.{arith}
 use mathlib.Core.Path.{_≡_, refl, sym, _∙_, ap}
@@ -11,7 +13,7 @@ use Rattle.smf.proofs.list.fill.Statement.{statement}
 use Rattle.smf.proofs.list.fill.Tie as tie
 
 abbrev Inv-loop : tie.InvT-loop
-Inv-loop file count first ends₀ counts₀ at₀ i₀ ends counts at i = (at ≤ length file) × (i ≤ count) × (length ends ≡ length ends₀) × (length counts ≡ length counts₀) × Readable (R file (count - i) at) × (sets ends i (endTimes (tracksIn (R file (count - i) at))) ≡ sets ends₀ 0 (endTimes (tracksIn (R file count first)))) × (sets counts i (eventCounts (tracksIn (R file (count - i) at))) ≡ sets counts₀ 0 (eventCounts (tracksIn (R file count first))))
+Inv-loop file count first ends₀ counts₀ at₀ i₀ ends counts at i = (at ≤ length file) × (i ≤ count) × (length ends ≡ length ends₀) × (length counts ≡ length counts₀) × Readable (R file (count - i) at) × (sets ends i (endTimes (valueOr [] (R file (count - i) at))) ≡ sets ends₀ 0 (endTimes (valueOr [] (R file count first)))) × (sets counts i (eventCounts (valueOr [] (R file (count - i) at))) ≡ sets counts₀ 0 (eventCounts (valueOr [] (R file count first))))
 
 abbrev μ-loop : tie.MeasureT-loop
 μ-loop file count first ends₀ counts₀ at₀ i₀ ends counts at i = count - i
@@ -73,8 +75,8 @@ loop-again c = let a = c .before .before .before .before .before .before .before
       length-set (l .ends) (l .i) (g .0 .0 .0) ∙ l .inv .2,
       length-set (l .counts) (l .i) (g .0 .1 .0) ∙ l .inv .3,
       one .readable,
-      sets-step (l .ends) (l .i) (g .0 .0 .0) (endTimes (tracksIn (R (a .file .now) (a .count - (l .i + 1)) (g .0 .1 .1 .0)))) ∙ ap (sets (l .ends) (l .i)) (sym (one .times)) ∙ l .inv .5,
-      sets-step (l .counts) (l .i) (g .0 .1 .0) (eventCounts (tracksIn (R (a .file .now) (a .count - (l .i + 1)) (g .0 .1 .1 .0)))) ∙ ap (sets (l .counts) (l .i)) (sym (one .counts)) ∙ l .inv .6,
+      sets-step (l .ends) (l .i) (g .0 .0 .0) (endTimes (valueOr [] (R (a .file .now) (a .count - (l .i + 1)) (g .0 .1 .1 .0)))) ∙ ap (sets (l .ends) (l .i)) (sym (one .times)) ∙ l .inv .5,
+      sets-step (l .counts) (l .i) (g .0 .1 .0) (eventCounts (valueOr [] (R (a .file .now) (a .count - (l .i + 1)) (g .0 .1 .1 .0)))) ∙ ap (sets (l .counts) (l .i)) (sym (one .counts)) ∙ l .inv .6,
     )
 
 same-length-3 : tie.Need-same-length-3 Inv-loop μ-loop
