@@ -17,7 +17,7 @@ use Rattle.event.proofs.KindLaws.{key-back}
 use Rattle.event.proofs.PlaceLaws.{place}
 
 -- the data of a system exclusive or meta event
-unfoldable frameData : Frame → List ℕ
+unfoldable pub frameData : Frame → List ℕ
 frameData (channel1 s a) = []
 frameData (channel2 s a b) = []
 frameData (exclusive s d) = d

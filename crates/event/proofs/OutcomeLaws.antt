@@ -2,9 +2,9 @@
 use mathlib.Core.Path.{_≡_, refl, ap}
 use Prim.Native.Nat.{ℕ}
 use mathlib.Core.Bool.{Bool, true, false}
-use mathlib.Core.List.{List}
+use mathlib.Core.List.{List, [], _∷_}
 use native.Mathlib.Omega.{arith}
-use Rattle.event.specs.Outcome.{Outcome, ok, refused, andThen, check, placed}
+use Rattle.event.specs.Outcome.{Outcome, ok, refused, andThen, check, placed, Readable, valueOr}
 
 -- a refusal is no value
 pub not-ok {ℓ} : {A : Type 0} {X : Type ℓ} {n p : ℕ} {a : A} {r : List ℕ} → refused n p ≡ ok a r → X
@@ -50,3 +50,15 @@ module _ {A : Type 0} where
   pub placed-eq : (p : ℕ) {m : Outcome A} {a : A} {r : List ℕ} → m ≡ ok a r → placed p m ≡ ok a r
   unfolding placed
   placed-eq p e = ap (placed p) e
+
+-- one value before the list that the rest gives
+module _ {A : Type 0} where
+  pub cons-readable : (a : A) (k : Outcome (List A)) → Readable (andThen k (λ xs r. ok (a ∷ xs) r)) → Readable k
+  unfolding Readable andThen
+  cons-readable a (ok xs r) h = tt
+  cons-readable a (refused n p) h = h
+
+  pub cons-value : (a : A) (k : Outcome (List A)) → Readable k → valueOr [] (andThen k (λ xs r. ok (a ∷ xs) r)) ≡ a ∷ valueOr [] k
+  unfolding Readable andThen valueOr
+  cons-value a (ok xs r) h = refl
+  cons-value a (refused n p) h = absurd h

@@ -13,7 +13,7 @@ use Rattle.event.specs.Choice.{pick}
 use Rattle.event.specs.Event.{Event}
 use Rattle.event.specs.Outcome.{Outcome, ok, refused, andThen, Readable, valueOr}
 use Rattle.event.specs.declared.Time.{Time}
-use Rattle.event.proofs.OutcomeLaws.{ok-same, andThen-ok, check-ok}
+use Rattle.event.proofs.OutcomeLaws.{ok-same, andThen-ok, check-ok, cons-readable, cons-value}
 use Rattle.event.proofs.RefusalLaws.{Fair}
 use Rattle.smf.specs.Piece.{Piece}
 use Rattle.smf.specs.Reader.{readTrack, readTracks, readHeader, readPiece, readFile}
@@ -32,16 +32,6 @@ use Rattle.smf.proofs.ChunkLaws.{track-bad, track-found}
 use Rattle.smf.proofs.VerdictLaws.{head-at}
 
 -- ---- a turn of the loop, with so many tracks left from the place at on
-
-cons-readable : (t : List Event) (k : Outcome (List (List Event))) → Readable (andThen k (λ ts q. ok (t ∷ ts) q)) → Readable k
-unfolding Readable andThen
-cons-readable t (ok ts q) h = tt
-cons-readable t (refused n p) h = h
-
-cons-tracks : (t : List Event) (k : Outcome (List (List Event))) → Readable k → valueOr [] (andThen k (λ ts q. ok (t ∷ ts) q)) ≡ t ∷ valueOr [] k
-unfolding Readable andThen valueOr
-cons-tracks t (ok ts q) h = refl
-cons-tracks t (refused n p) h = absurd h
 
 abbrev pub R : List ℕ → ℕ → ℕ → Outcome (List (List Event))
 R s left at = readTracks left at (drop at s)
@@ -66,7 +56,7 @@ list-one s n at t c q bs h e w =
     let next : at + (length (drop at s) - length (drop q s)) ≡ q = simp length-drop (omega arith) in
     let step : readTracks (suc n) at (drop at s) ≡ andThen (R s n q) (λ ts r. ok (es ∷ ts) r) = rw (come, next) refl in
     let good : Readable (R s n q) = cons-readable es (R s n q) (rw step at w) in
-    let all : valueOr [] (R s (suc n) at) ≡ es ∷ valueOr [] (R s n q) = ap (valueOr []) step ∙ cons-tracks es (R s n q) good in
+    let all : valueOr [] (R s (suc n) at) ≡ es ∷ valueOr [] (R s n q) = ap (valueOr []) step ∙ cons-value es (R s n q) good in
     let time : lastTime 0 es ≡ t .0 = ap (λ (x : Time). x .0) pt in
     record {
       inside = hi;

@@ -43,7 +43,7 @@ step-ok s at prev f t k q st (ok e r) bs h come p f2 =
     f2 e (come ∙ ap (ok e) rest) (omega (arith, length-drop at s)) (omega arith) pt (ap (λ z. kindAt z (e .kind)) (sym pq) ∙ pk) ps
 step-ok s at prev f t k q st (refused n z) bs h come p f2 = let w : _≡_ {A = ℕ} 0 1 = cc in absurd (omega arith)
 
-step-bad : (n k : ℕ) (m : Outcome Event) → eventStep n m ≡ Stop k → (z : ℕ) × (m ≡ refused k z)
+pub step-bad : (n k : ℕ) (m : Outcome Event) → eventStep n m ≡ Stop k → (z : ℕ) × (m ≡ refused k z)
 unfolding eventStep
 step-bad n k (ok e r) p = let w : _≡_ {A = ℕ} 0 1 = cc in absurd (omega arith)
 step-bad n k (refused j z) p = (z, cc)
