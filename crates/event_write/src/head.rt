@@ -48,13 +48,67 @@ fn put_meta(out: &mut [u8], at: usize, t: u8, len: u32) -> usize
     put_number(out, q, len)
 }
 
+// Four bytes.
+fn put_quad(out: &mut [u8], at: usize, a: u8, b: u8, c: u8, d: u8) -> usize
+    requires { ⌜ at < 2 ^ 46 ⌝ }
+    ensures { λ r. ⌜ Written (now (out .entry)) at (a ∷ b ∷ c ∷ d ∷ []) (now (out .exit)) r ⌝ }
+{
+    let p = put_byte(out, at, a);
+    let q = put_byte(out, p, b);
+    let r = put_byte(out, q, c);
+    put_byte(out, r, d)
+}
+
 // A system exclusive or meta event; of a channel event nothing.
 fn put_long(out: &mut [u8], at: usize, kind: event::EventKind) -> usize
     requires { ⌜ at < 2 ^ 45 ⌝ }
     ensures { λ r. ⌜ Written (now (out .entry)) at (longBytes kind) (now (out .exit)) r ⌝ }
 {
-    // TODO: match kind, one arm a row; `_ => at`
-    at
+    match kind {
+        event::EventKind::SystemExclusive { len, .. } => {
+            let p = put_byte(out, at, 0xF0);
+            put_number(out, p, (len % 268435456) as u32)
+        }
+        event::EventKind::SystemExclusivePacket { len, .. } => {
+            let p = put_byte(out, at, 0xF7);
+            put_number(out, p, (len % 268435456) as u32)
+        }
+        event::EventKind::SequenceNumber { number } => {
+            let p = put_meta(out, at, 0x00, 2);
+            put_two(out, p, number)
+        }
+        event::EventKind::Text { kind: t, len, .. } => put_meta(out, at, t, (len % 268435456) as u32),
+        event::EventKind::ChannelPrefix { number } => {
+            let p = put_meta(out, at, 0x20, 1);
+            put_byte(out, p, number)
+        }
+        event::EventKind::MidiPort { number } => {
+            let p = put_meta(out, at, 0x21, 1);
+            put_byte(out, p, number)
+        }
+        event::EventKind::EndTrack => put_meta(out, at, 0x2F, 0),
+        event::EventKind::Tempo { micros } => {
+            let p = put_meta(out, at, 0x51, 3);
+            put_three(out, p, micros)
+        }
+        event::EventKind::SmpteOffset { hour, minute, second, frame, part } => {
+            let p = put_meta(out, at, 0x54, 5);
+            let q = put_quad(out, p, hour, minute, second, frame);
+            put_byte(out, q, part)
+        }
+        event::EventKind::TimeSignature { numerator, denominator, click, notes } => {
+            let p = put_meta(out, at, 0x58, 4);
+            put_quad(out, p, numerator, denominator, click, notes)
+        }
+        event::EventKind::KeySignature { key, minor } => {
+            let p = put_meta(out, at, 0x59, 2);
+            let q = put_byte(out, p, key);
+            put_byte(out, q, minor)
+        }
+        event::EventKind::SequencerSpecific { len, .. } => put_meta(out, at, 0x7F, (len % 268435456) as u32),
+        event::EventKind::UnknownMeta { kind: t, len, .. } => put_meta(out, at, t, (len % 268435456) as u32),
+        _ => at,
+    }
 }
 
 // An event after its delta.
@@ -62,8 +116,20 @@ fn put_tail(out: &mut [u8], at: usize, kind: event::EventKind, force: u8, short:
     requires { ⌜ at < 2 ^ 44 ⌝ }
     ensures { λ r. ⌜ Written (now (out .entry)) at (tailBytes (mannerOf short) force kind) (now (out .exit)) r ⌝ }
 {
-    // TODO: match kind, the seven channel kinds; `_ => put_long(out, at, kind)`
-    at
+    match kind {
+        event::EventKind::NoteOff { channel, key, velocity } => put_pair(out, at, 0x80 + channel % 16, force, short, key, velocity),
+        event::EventKind::NoteOn { channel, key, velocity } => put_pair(out, at, 0x90 + channel % 16, force, short, key, velocity),
+        event::EventKind::PolyAftertouch { channel, key, value } => put_pair(out, at, 0xA0 + channel % 16, force, short, key, value),
+        event::EventKind::Control { channel, controller, value } => put_pair(out, at, 0xB0 + channel % 16, force, short, controller, value),
+        event::EventKind::Program { channel, number } => put_one(out, at, 0xC0 + channel % 16, force, short, number),
+        event::EventKind::ChannelAftertouch { channel, value } => put_one(out, at, 0xD0 + channel % 16, force, short, value),
+        event::EventKind::PitchBend { channel, value } => {
+            let low = (value % 128) as u8;
+            let high = (value / 128 % 128) as u8;
+            put_pair(out, at, 0xE0 + channel % 16, force, short, low, high)
+        }
+        _ => put_long(out, at, kind),
+    }
 }
 
 // An event to its data: force is the status in force before it (0: none).
