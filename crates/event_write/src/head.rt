@@ -2,9 +2,11 @@
 ghost use mathlib.Core.List.{[], _∷_, _++_};
 ghost use Prim.Native.Nat.{_+_, _<_, _^_};
 ghost use Rattle.event_write.specs.Written.{Written};
-ghost use Rattle.event_write.specs.Head.{mannerOf, statusBytes, metaBytes, longBytes, tailBytes, headBytes};
-
-use super::bytes::{put_byte, put_number, put_three, put_two};
+ghost use Rattle.event_write.specs.Head.{fewest, mannerOf, statusBytes, metaBytes, longBytes, tailBytes, headBytes};
+use super::bytes::put_byte;
+use super::bytes::put_number;
+use super::bytes::put_three;
+use super::bytes::put_two;
 
 // The status of a channel event: in the short manner it is left out where it is in force.
 fn put_status(out: &mut [u8], at: usize, status: u8, force: u8, short: bool) -> usize
@@ -48,7 +50,24 @@ fn put_meta(out: &mut [u8], at: usize, t: u8, len: u32) -> usize
     put_number(out, q, len)
 }
 
-// Four bytes.
+// The same for the length of any data: the code has no bound on it, a number has 28 bits.
+fn put_data(out: &mut [u8], at: usize, t: u8, len: usize) -> usize
+    requires { ⌜ at < 2 ^ 46 ⌝ }
+    ensures { λ r. ⌜ Written (now (out .entry)) at (metaBytes t len) (now (out .exit)) r ⌝ }
+{
+    put_meta(out, at, t, (len % 268435456) as u32)
+}
+
+// The status F0 or F7 and the length of a system exclusive event, as above.
+fn put_exclusive(out: &mut [u8], at: usize, status: u8, len: usize) -> usize
+    requires { ⌜ at < 2 ^ 46 ⌝ }
+    ensures { λ r. ⌜ Written (now (out .entry)) at (status ∷ fewest len) (now (out .exit)) r ⌝ }
+{
+    let p = put_byte(out, at, status);
+    put_number(out, p, (len % 268435456) as u32)
+}
+
+// Four bytes, one after the other.
 fn put_quad(out: &mut [u8], at: usize, a: u8, b: u8, c: u8, d: u8) -> usize
     requires { ⌜ at < 2 ^ 46 ⌝ }
     ensures { λ r. ⌜ Written (now (out .entry)) at (a ∷ b ∷ c ∷ d ∷ []) (now (out .exit)) r ⌝ }
@@ -65,19 +84,13 @@ fn put_long(out: &mut [u8], at: usize, kind: event::EventKind) -> usize
     ensures { λ r. ⌜ Written (now (out .entry)) at (longBytes kind) (now (out .exit)) r ⌝ }
 {
     match kind {
-        event::EventKind::SystemExclusive { len, .. } => {
-            let p = put_byte(out, at, 0xF0);
-            put_number(out, p, (len % 268435456) as u32)
-        }
-        event::EventKind::SystemExclusivePacket { len, .. } => {
-            let p = put_byte(out, at, 0xF7);
-            put_number(out, p, (len % 268435456) as u32)
-        }
+        event::EventKind::SystemExclusive { len, .. } => put_exclusive(out, at, 0xF0, len),
+        event::EventKind::SystemExclusivePacket { len, .. } => put_exclusive(out, at, 0xF7, len),
         event::EventKind::SequenceNumber { number } => {
             let p = put_meta(out, at, 0x00, 2);
             put_two(out, p, number)
         }
-        event::EventKind::Text { kind: t, len, .. } => put_meta(out, at, t, (len % 268435456) as u32),
+        event::EventKind::Text { kind: t, len, .. } => put_data(out, at, t, len),
         event::EventKind::ChannelPrefix { number } => {
             let p = put_meta(out, at, 0x20, 1);
             put_byte(out, p, number)
@@ -91,12 +104,23 @@ fn put_long(out: &mut [u8], at: usize, kind: event::EventKind) -> usize
             let p = put_meta(out, at, 0x51, 3);
             put_three(out, p, micros)
         }
-        event::EventKind::SmpteOffset { hour, minute, second, frame, part } => {
+        event::EventKind::SmpteOffset {
+            hour,
+            minute,
+            second,
+            frame,
+            part,
+        } => {
             let p = put_meta(out, at, 0x54, 5);
             let q = put_quad(out, p, hour, minute, second, frame);
             put_byte(out, q, part)
         }
-        event::EventKind::TimeSignature { numerator, denominator, click, notes } => {
+        event::EventKind::TimeSignature {
+            numerator,
+            denominator,
+            click,
+            notes,
+        } => {
             let p = put_meta(out, at, 0x58, 4);
             put_quad(out, p, numerator, denominator, click, notes)
         }
@@ -105,8 +129,8 @@ fn put_long(out: &mut [u8], at: usize, kind: event::EventKind) -> usize
             let q = put_byte(out, p, key);
             put_byte(out, q, minor)
         }
-        event::EventKind::SequencerSpecific { len, .. } => put_meta(out, at, 0x7F, (len % 268435456) as u32),
-        event::EventKind::UnknownMeta { kind: t, len, .. } => put_meta(out, at, t, (len % 268435456) as u32),
+        event::EventKind::SequencerSpecific { len, .. } => put_data(out, at, 0x7F, len),
+        event::EventKind::UnknownMeta { kind: t, len, .. } => put_data(out, at, t, len),
         _ => at,
     }
 }
@@ -117,12 +141,37 @@ fn put_tail(out: &mut [u8], at: usize, kind: event::EventKind, force: u8, short:
     ensures { λ r. ⌜ Written (now (out .entry)) at (tailBytes (mannerOf short) force kind) (now (out .exit)) r ⌝ }
 {
     match kind {
-        event::EventKind::NoteOff { channel, key, velocity } => put_pair(out, at, 0x80 + channel % 16, force, short, key, velocity),
-        event::EventKind::NoteOn { channel, key, velocity } => put_pair(out, at, 0x90 + channel % 16, force, short, key, velocity),
-        event::EventKind::PolyAftertouch { channel, key, value } => put_pair(out, at, 0xA0 + channel % 16, force, short, key, value),
-        event::EventKind::Control { channel, controller, value } => put_pair(out, at, 0xB0 + channel % 16, force, short, controller, value),
-        event::EventKind::Program { channel, number } => put_one(out, at, 0xC0 + channel % 16, force, short, number),
-        event::EventKind::ChannelAftertouch { channel, value } => put_one(out, at, 0xD0 + channel % 16, force, short, value),
+        event::EventKind::NoteOff {
+            channel,
+            key,
+            velocity,
+        } => put_pair(out, at, 0x80 + channel % 16, force, short, key, velocity),
+        event::EventKind::NoteOn {
+            channel,
+            key,
+            velocity,
+        } => put_pair(out, at, 0x90 + channel % 16, force, short, key, velocity),
+        event::EventKind::PolyAftertouch {
+            channel,
+            key,
+            value,
+        } => put_pair(out, at, 0xA0 + channel % 16, force, short, key, value),
+        event::EventKind::Control {
+            channel,
+            controller,
+            value,
+        } => {
+            let status = 0xB0 + channel % 16;
+            put_pair(out, at, status, force, short, controller, value)
+        }
+        event::EventKind::Program { channel, number } => {
+            let status = 0xC0 + channel % 16;
+            put_one(out, at, status, force, short, number)
+        }
+        event::EventKind::ChannelAftertouch { channel, value } => {
+            let status = 0xD0 + channel % 16;
+            put_one(out, at, status, force, short, value)
+        }
         event::EventKind::PitchBend { channel, value } => {
             let low = (value % 128) as u8;
             let high = (value / 128 % 128) as u8;
@@ -133,7 +182,14 @@ fn put_tail(out: &mut [u8], at: usize, kind: event::EventKind, force: u8, short:
 }
 
 // An event to its data: force is the status in force before it (0: none).
-pub fn put_head(out: &mut [u8], at: usize, delta: event::Delta, kind: event::EventKind, force: u8, short: bool) -> usize
+pub fn put_head(
+    out: &mut [u8],
+    at: usize,
+    delta: event::Delta,
+    kind: event::EventKind,
+    force: u8,
+    short: bool,
+) -> usize
     requires { ⌜ at < 2 ^ 43 ⌝ }
     ensures { λ r. ⌜ Written (now (out .entry)) at (headBytes (mannerOf short) force (delta .0) kind) (now (out .exit)) r ⌝ }
 {

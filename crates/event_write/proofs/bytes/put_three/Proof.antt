@@ -1,44 +1,31 @@
+-- A number of three bytes: one after the other.
 use Rattle.event.specs.Bytes.{bigEndian, bytesOnto}
 use Rattle.event_write.proofs.WriteLaws.{then}
-use native.Mathlib.Omega.{arith}
-use borrow.Author.Tests.{lt-ltb, le-ltb, le-leb, lt-leb, eq-eqb, ne-eqb}
-use mathlib.Core.Path.{_≡_, refl, sym, _∙_, ap}
 use borrow.Author.Needs.{needs}
 use Rattle.event_write.proofs.bytes.put_three.Statement.{statement}
 use Rattle.event_write.proofs.bytes.put_three.Tie as tie
-use Rattle.event_write.proofs.bytes.put_three.Reads as reads
-use Rattle.event_write.proofs.bytes.put_three.Lts as lts
-use Rattle.event_write.proofs.bytes.put_byte.Reads as put-byte-reads
 
--- src/bytes.rt:71:31
 cast-put-byte : tie.Need-cast-put-byte
 cast-put-byte c = search needs
 
--- src/bytes.rt:71:9
 put-byte-requires : tie.Need-put-byte-requires
 put-byte-requires c κs = search needs
 
--- src/bytes.rt:72:30
 cast-put-byte-2 : tie.Need-cast-put-byte-2
 cast-put-byte-2 c = search needs
 
--- src/bytes.rt:72:9
 put-byte-requires-2 : tie.Need-put-byte-requires-2
 put-byte-requires-2 c κs = search needs
 
--- src/bytes.rt:73:22
 cast-put-byte-3 : tie.Need-cast-put-byte-3
 cast-put-byte-3 c = search needs
 
--- src/bytes.rt:73:5
 put-byte-requires-3 : tie.Need-put-byte-requires-3
 put-byte-requires-3 c κs = search needs
 
--- src/bytes.rt:67:1
 same-length : tie.Need-same-length
 same-length c = search needs
 
--- src/bytes.rt:67:1
 returns : tie.Need-returns
 unfolding bigEndian bytesOnto
 returns c = then (c .before .before .before .before .before .before .before .before .before .before .put-byte .ensures) (then (c .before .before .before .before .before .before .put-byte2 .ensures) (c .before .before .put-byte3 .ensures))

@@ -1,34 +1,24 @@
+-- A status and two data bytes.
 use Rattle.event_write.proofs.WriteLaws.{then}
 use Rattle.event_write.proofs.HeadLaws.{status-length}
 use Rattle.event_write.specs.Head.{mannerOf}
 use native.Mathlib.Omega.{arith}
-use borrow.Author.Tests.{lt-ltb, le-ltb, le-leb, lt-leb, eq-eqb, ne-eqb}
-use mathlib.Core.Path.{_≡_, refl, sym, _∙_, ap}
 use borrow.Author.Needs.{needs}
 use Rattle.event_write.proofs.head.put_pair.Statement.{statement}
 use Rattle.event_write.proofs.head.put_pair.Tie as tie
-use Rattle.event_write.proofs.head.put_pair.Reads as reads
-use Rattle.event_write.proofs.head.put_pair.Lts as lts
-use Rattle.event_write.proofs.bytes.put_byte.Reads as put-byte-reads
-use Rattle.event_write.proofs.head.put_status.Reads as put-status-reads
 
--- src/head.rt:36:9
 put-status-requires : tie.Need-put-status-requires
 put-status-requires c κs = search needs
 
--- src/head.rt:37:9
 put-byte-requires : tie.Need-put-byte-requires
 put-byte-requires c κs = let a = c .before .before .before .before .before .before .args in omega (arith, status-length (mannerOf (a .short)) (a .force) (a .status))
 
--- src/head.rt:38:5
 put-byte-requires-2 : tie.Need-put-byte-requires-2
 put-byte-requires-2 c κs = let a = c .before .before .before .before .before .before .before .before .before .before .args in omega (arith, status-length (mannerOf (a .short)) (a .force) (a .status))
 
--- src/head.rt:32:1
 same-length : tie.Need-same-length
 same-length c = search needs
 
--- src/head.rt:32:1
 returns : tie.Need-returns
 returns c = then (c .before .before .before .before .before .before .before .before .before .before .put-status .ensures) (then (c .before .before .before .before .before .before .put-byte .ensures) (c .before .before .put-byte2 .ensures))
 

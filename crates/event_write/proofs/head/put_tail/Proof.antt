@@ -1,3 +1,4 @@
+-- An event after its delta: one case for each channel event; the others, with a tag of 7 to 19, are long.
 use mathlib.Core.List.{List, [], _∷_}
 use Prim.Native.Nat.{ℕ}
 use denote.Enum.Declared.{tagOf}
@@ -8,17 +9,10 @@ use Rattle.event.specs.declared.EventKind.the-variants.{NoteOff, NoteOn, PolyAf
 use Rattle.event.specs.Manner.{Manner}
 use Rattle.event_write.specs.Head.{longBytes}
 use Rattle.event_write.specs.Head.{tailBytes, mannerOf}
-use native.Mathlib.Omega.{arith}
-use borrow.Author.Tests.{lt-ltb, le-ltb, le-leb, lt-leb, eq-eqb, ne-eqb}
-use mathlib.Core.Path.{_≡_, refl, sym, _∙_, ap}
+use mathlib.Core.Path.{_≡_, refl}
 use borrow.Author.Needs.{needs}
 use Rattle.event_write.proofs.head.put_tail.Statement.{statement}
 use Rattle.event_write.proofs.head.put_tail.Tie as tie
-use Rattle.event_write.proofs.head.put_tail.Reads as reads
-use Rattle.event_write.proofs.head.put_tail.Lts as lts
-use Rattle.event_write.proofs.head.put_long.Reads as put-long-reads
-use Rattle.event_write.proofs.head.put_one.Reads as put-one-reads
-use Rattle.event_write.proofs.head.put_pair.Reads as put-pair-reads
 
 abbrev longs : List ℕ
 longs = 7 ∷ 8 ∷ 9 ∷ 10 ∷ 11 ∷ 12 ∷ 13 ∷ 14 ∷ 15 ∷ 16 ∷ 17 ∷ 18 ∷ 19 ∷ []
@@ -46,172 +40,131 @@ tail-long m force (KeySignature a b) h = refl
 tail-long m force (SequencerSpecific a b) h = refl
 tail-long m force (UnknownMeta a b c) h = refl
 
--- src/head.rt:120:37
 enum-known-kind : tie.Need-enum-known-kind
 enum-known-kind c = search needs
 
--- src/head.rt:120:83
 add-put-pair : tie.Need-add-put-pair
 add-put-pair c = search needs
 
--- src/head.rt:120:65
 put-pair-requires : tie.Need-put-pair-requires
 put-pair-requires c κs = search needs
 
--- src/head.rt:121:36
 enum-known-kind-2 : tie.Need-enum-known-kind-2
 enum-known-kind-2 c = search needs
 
--- src/head.rt:121:82
 add-put-pair-2 : tie.Need-add-put-pair-2
 add-put-pair-2 c = search needs
 
--- src/head.rt:121:64
 put-pair-requires-2 : tie.Need-put-pair-requires-2
 put-pair-requires-2 c κs = search needs
 
--- src/head.rt:122:44
 enum-known-kind-3 : tie.Need-enum-known-kind-3
 enum-known-kind-3 c = search needs
 
--- src/head.rt:122:87
 add-put-pair-3 : tie.Need-add-put-pair-3
 add-put-pair-3 c = search needs
 
--- src/head.rt:122:69
 put-pair-requires-3 : tie.Need-put-pair-requires-3
 put-pair-requires-3 c κs = search needs
 
--- src/head.rt:123:37
 enum-known-kind-4 : tie.Need-enum-known-kind-4
 enum-known-kind-4 c = search needs
 
--- src/head.rt:123:87
-add-put-pair-4 : tie.Need-add-put-pair-4
-add-put-pair-4 c = search needs
+add-status : tie.Need-add-status
+add-status c = search needs
 
--- src/head.rt:123:69
 put-pair-requires-4 : tie.Need-put-pair-requires-4
 put-pair-requires-4 c κs = search needs
 
--- src/head.rt:124:37
 enum-known-kind-5 : tie.Need-enum-known-kind-5
 enum-known-kind-5 c = search needs
 
--- src/head.rt:124:75
-add-put-one : tie.Need-add-put-one
-add-put-one c = search needs
+add-status-2 : tie.Need-add-status-2
+add-status-2 c = search needs
 
--- src/head.rt:124:58
 put-one-requires : tie.Need-put-one-requires
 put-one-requires c κs = search needs
 
--- src/head.rt:125:47
 enum-known-kind-6 : tie.Need-enum-known-kind-6
 enum-known-kind-6 c = search needs
 
--- src/head.rt:125:84
-add-put-one-2 : tie.Need-add-put-one-2
-add-put-one-2 c = search needs
+add-status-3 : tie.Need-add-status-3
+add-status-3 c = search needs
 
--- src/head.rt:125:67
 put-one-requires-2 : tie.Need-put-one-requires-2
 put-one-requires-2 c κs = search needs
 
--- src/head.rt:126:39
 enum-known-kind-7 : tie.Need-enum-known-kind-7
 enum-known-kind-7 c = search needs
 
--- src/head.rt:127:23
 cast-low : tie.Need-cast-low
 cast-low c = search needs
 
--- src/head.rt:128:24
 cast-high : tie.Need-cast-high
 cast-high c = search needs
 
--- src/head.rt:129:31
-add-put-pair-5 : tie.Need-add-put-pair-5
-add-put-pair-5 c = search needs
+add-put-pair-4 : tie.Need-add-put-pair-4
+add-put-pair-4 c = search needs
 
--- src/head.rt:129:13
 put-pair-requires-5 : tie.Need-put-pair-requires-5
 put-pair-requires-5 c κs = search needs
 
--- src/head.rt:131:14
 put-long-requires : tie.Need-put-long-requires
 put-long-requires c κs = search needs
 
--- src/head.rt:115:1
 same-length : tie.Need-same-length
 same-length c = search needs
 
--- src/head.rt:115:1
 returns : tie.Need-returns
 unfolding tailBytes
 returns c = rw (c .before .before .before .before .before .kind .given .1) (c .before .before .put-pair .ensures)
 
--- src/head.rt:115:1
 same-length-2 : tie.Need-same-length-2
 same-length-2 c = search needs
 
--- src/head.rt:115:1
 returns-2 : tie.Need-returns-2
 unfolding tailBytes
 returns-2 c = rw (c .before .before .before .before .before .kind2 .given .1) (c .before .before .put-pair2 .ensures)
 
--- src/head.rt:115:1
 same-length-3 : tie.Need-same-length-3
 same-length-3 c = search needs
 
--- src/head.rt:115:1
 returns-3 : tie.Need-returns-3
 unfolding tailBytes
 returns-3 c = rw (c .before .before .before .before .before .kind3 .given .1) (c .before .before .put-pair3 .ensures)
 
--- src/head.rt:115:1
 same-length-4 : tie.Need-same-length-4
 same-length-4 c = search needs
 
--- src/head.rt:115:1
 returns-4 : tie.Need-returns-4
 unfolding tailBytes
 returns-4 c = rw (c .before .before .before .before .before .kind4 .given .1) (c .before .before .put-pair4 .ensures)
 
--- src/head.rt:115:1
 same-length-5 : tie.Need-same-length-5
 same-length-5 c = search needs
 
--- src/head.rt:115:1
 returns-5 : tie.Need-returns-5
 unfolding tailBytes
 returns-5 c = rw (c .before .before .before .before .before .kind5 .given .1) (c .before .before .put-one .ensures)
 
--- src/head.rt:115:1
 same-length-6 : tie.Need-same-length-6
 same-length-6 c = search needs
 
--- src/head.rt:115:1
 returns-6 : tie.Need-returns-6
 unfolding tailBytes
 returns-6 c = rw (c .before .before .before .before .before .kind6 .given .1) (c .before .before .put-one2 .ensures)
 
--- src/head.rt:115:1
 same-length-7 : tie.Need-same-length-7
 same-length-7 c = search needs
 
--- src/head.rt:115:1
 returns-7 : tie.Need-returns-7
 unfolding tailBytes
 returns-7 c = rw (c .before .before .before .before .before .kind7 .given .1) (c .before .before .put-pair5 .ensures)
 
--- src/head.rt:115:1
 same-length-8 : tie.Need-same-length-8
 same-length-8 c = search needs
 
--- src/head.rt:115:1
 returns-8 : tie.Need-returns-8
-unfolding tailBytes
 returns-8 c = let a = c .before .before .before .before .before .before .args in rw (tail-long (mannerOf (a .short)) (a .force) (a .kind) (c .before .before .before .before .match .keys8)) (c .before .before .put-long .ensures)
 
 pub put-tail-spec : {M : Type 1} → statement M
@@ -228,18 +181,18 @@ put-tail-spec =
     add-put-pair-3
     put-pair-requires-3
     enum-known-kind-4
-    add-put-pair-4
+    add-status
     put-pair-requires-4
     enum-known-kind-5
-    add-put-one
+    add-status-2
     put-one-requires
     enum-known-kind-6
-    add-put-one-2
+    add-status-3
     put-one-requires-2
     enum-known-kind-7
     cast-low
     cast-high
-    add-put-pair-5
+    add-put-pair-4
     put-pair-requires-5
     put-long-requires
     same-length
