@@ -1,0 +1,42 @@
+-- What is written in a row is written as one.
+use mathlib.Core.Path.{_≡_, refl, _∙_}
+use mathlib.Core.List.{List, [], _∷_, _++_}
+use Prim.Native.Nat.{ℕ, suc, _+_}
+use native.Mathlib.Nat.{add-zero}
+use native.Mathlib.Omega.{arith}
+use lib.ListN.{length, set, length-append}
+use lib.Seq.{sets}
+use Rattle.event_write.specs.Written.{Written, overwrite}
+
+pub sets-append : (xs ys l : List ℕ) (i : ℕ) → sets (sets l i xs) (i + length xs) ys ≡ sets l i (xs ++ ys)
+sets-append [] ys l i = rw add-zero
+sets-append (a ∷ xs) ys l i =
+    let e : i + suc (length xs) ≡ suc i + length xs = omega arith in
+    rw e (sets-append xs ys (set l i a) (suc i))
+
+-- one thing after the other
+pub then : {old mid new xs ys : List ℕ} {at m next : ℕ} → Written old at xs mid m → Written mid m ys new next → Written old at (xs ++ ys) new next
+then {old} {mid} {new} {xs} {ys} {at} {m} {next} a b = record {
+  contents = b .contents ∙ rw (a .contents, a .place) (sets-append xs ys old at);
+  place = omega (arith, length-append xs ys, a .place, b .place);
+}
+
+pub nothing : (old : List ℕ) (at : ℕ) → Written old at [] old at
+nothing old at = record { contents = refl; place = omega arith }
+
+-- a loop that writes whole: new, with the rest still to be written at next, is old with whole written at at
+pub record Remains (old : List ℕ) (at : ℕ) (whole new : List ℕ) (next : ℕ) (rest : List ℕ) : Type 0 where
+  pub contents : overwrite new next rest ≡ overwrite old at whole
+  pub place : next + length rest ≡ at + length whole
+
+pub all-remains : (old : List ℕ) (at : ℕ) (whole : List ℕ) → Remains old at whole old at whole
+all-remains old at whole = record { contents = refl; place = refl }
+
+pub less-remains : {old whole mid new item rest : List ℕ} {at m next : ℕ} → Remains old at whole mid m (item ++ rest) → Written mid m item new next → Remains old at whole new next rest
+less-remains {old} {whole} {mid} {new} {item} {rest} {at} {m} {next} a b = record {
+  contents = rw (b .contents, b .place) (sets-append item rest mid m) ∙ a .contents;
+  place = omega (arith, length-append item rest, a .place, b .place);
+}
+
+pub none-remains : {old whole new : List ℕ} {at next : ℕ} → Remains old at whole new next [] → Written old at whole new next
+none-remains {old} {whole} {new} {at} {next} a = record { contents = a .contents; place = omega (arith, a .place) }

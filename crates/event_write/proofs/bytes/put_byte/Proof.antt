@@ -1,0 +1,28 @@
+-- A byte: where there is no room for it, writing it past the end changes nothing.
+use lib.Seq.{set-out}
+use mathlib.Core.Path.{refl, sym}
+use borrow.Author.Needs.{needs}
+use Rattle.event_write.proofs.bytes.put_byte.Statement.{statement}
+use Rattle.event_write.proofs.bytes.put_byte.Tie as tie
+
+slice-write-out : tie.Need-slice-write-out
+slice-write-out c = search needs
+
+add-result : tie.Need-add-result
+add-result c = search needs
+
+same-length : tie.Need-same-length
+same-length c = search needs
+
+returns : tie.Need-returns
+returns c = record { contents = refl; place = refl }
+
+add-result-2 : tie.Need-add-result-2
+add-result-2 c = search needs
+
+returns-2 : tie.Need-returns-2
+returns-2 c = record { contents = sym (set-out _ _ _ (c .if1 .left)); place = refl }
+
+pub put-byte-spec : {M : Type 1} → statement M
+put-byte-spec =
+    tie.close (tie.spec slice-write-out add-result same-length returns add-result-2 returns-2)
