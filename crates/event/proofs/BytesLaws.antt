@@ -142,3 +142,6 @@ number-at s p k h = simp (data-at s p k h)
 
 pub size-at : (s : List ℕ) (p n : ℕ) → p + n ≤ length s → length (take n (drop p s)) ≡ n
 size-at s p n h = let fit : n ≤ length (drop p s) = simp length-drop (omega arith) in length-take-le n (drop p s) fit
+
+pub bytes-take : (s : List ℕ) (n : ℕ) → Bytes s → Bytes (take n s)
+bytes-take s n b = bytes-left (take n s) (drop n s) (rw (take-append-drop n s) b)

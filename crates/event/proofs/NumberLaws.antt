@@ -96,7 +96,7 @@ vlq-size w4 v = omega arith
 
 -- ---- the fewest bytes
 
-limit-most : (w : Width) → limit w ≤ 268435456
+pub limit-most : (w : Width) → limit w ≤ 268435456
 limit-most w1 = omega arith
 limit-most w2 = omega arith
 limit-most w3 = omega arith

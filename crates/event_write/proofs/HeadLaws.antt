@@ -8,13 +8,14 @@ use lib.ListN.{length}
 use lib.Dec.{eqb}
 use Rattle.event.specs.Choice.{pick}
 use Rattle.event.specs.Bytes.{bigEndian, bytesOnto}
-use Rattle.event.specs.Number.{Width, w1, w2, w3, w4, limit, least}
+use Rattle.event.specs.Number.{Width, limit, least}
 use Rattle.event.specs.Event.{Event, Lawful, Fits, Kind, noteOff, noteOn, polyAftertouch, control, program, channelAftertouch, pitchBend, systemExclusive, systemExclusivePacket, sequenceNumber, text, channelPrefix, midiPort, endTrack, tempo, smpteOffset, timeSignature, keySignature, sequencerSpecific, unknownMeta}
 use Rattle.event.specs.Frame.{Frame, channel1, channel2, exclusive, meta, frame, keyByte}
 use Rattle.event.specs.Spelling.{Rest, leftOut, lengthIn, Spelling, Spelled, Permitted}
 use Rattle.event.specs.Layout.{layChannel, layFrame, layEvent}
 use Rattle.event.specs.Manner.{Manner, full, short, statusIn, restIn, spellEvent}
 use Rattle.event.specs.Step.{kindAt}
+use Rattle.event.proofs.NumberLaws.{limit-most}
 use Rattle.event.proofs.DataLaws.{frameData}
 use Rattle.event_write.specs.Head.{fewest, statusBytes, metaBytes, longBytes, tailBytes, headBytes, dataOf}
 use Rattle.event_write.proofs.NumberLaws.{fewest-length, fewest-low, fewest-is}
@@ -107,10 +108,7 @@ tail-row m force next (unknownMeta t d) f h = meta-row t d h
 
 -- a number that fits some bytes has 28 bits
 small : (w : Width) (v : ℕ) → v < limit w → v < 268435456
-small w1 v h = omega arith
-small w2 v h = omega arith
-small w3 v h = omega arith
-small w4 v h = omega arith
+small w v h = omega (arith, limit-most w)
 
 data-small : (force : ℕ) (x : Frame) (s : Rest) → Spelled force x s → length (frameData x) < 268435456
 unfolding Spelled frameData

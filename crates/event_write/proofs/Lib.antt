@@ -1,3 +1,4 @@
 pub mod WriteLaws
 pub mod NumberLaws
 pub mod HeadLaws
+pub mod DataLaws

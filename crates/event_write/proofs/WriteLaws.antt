@@ -1,5 +1,5 @@
 -- What is written in a row is written as one.
-use mathlib.Core.Path.{_≡_, refl, _∙_}
+use mathlib.Core.Path.{_≡_, refl, ap, subst, _∙_}
 use mathlib.Core.List.{List, [], _∷_, _++_}
 use Prim.Native.Nat.{ℕ, suc, _+_}
 use native.Mathlib.Nat.{add-zero}
@@ -40,3 +40,20 @@ less-remains {old} {whole} {mid} {new} {item} {rest} {at} {m} {next} a b = recor
 
 pub none-remains : {old whole new : List ℕ} {at next : ℕ} → Remains old at whole new next [] → Written old at whole new next
 none-remains {old} {whole} {new} {at} {next} a = record { contents = a .contents; place = omega (arith, a .place) }
+
+-- ---- a writer that was lent no room measures
+
+lent-nothing : (i : ℕ) (xs : List ℕ) → sets [] i xs ≡ []
+lent-nothing i [] = refl
+lent-nothing i (x ∷ xs) = lent-nothing (suc i) xs
+
+-- the room whose empty part was lent is as it was
+pub after-measure : {part out bytes xs new : List ℕ} {at from size next : ℕ} → Written [] from xs part size → Written (part ++ out) at bytes new next → Written out at bytes new next
+after-measure {part} {out} {bytes} {xs} {new} {at} {from} {size} {next} m w =
+    subst (λ z. Written (z ++ out) at bytes new next) (m .contents ∙ lent-nothing from xs) w
+
+pub unmeasured : {part xs : List ℕ} {from size : ℕ} (out : List ℕ) → Written [] from xs part size → part ++ out ≡ out
+unmeasured {part} {xs} {from} out m = ap (λ z. z ++ out) (m .contents ∙ lent-nothing from xs)
+
+pub measured : {part xs : List ℕ} {size : ℕ} → Written [] 0 xs part size → size ≡ length xs
+measured m = omega (arith, m .place)

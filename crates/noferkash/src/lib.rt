@@ -2,7 +2,9 @@
 ghost use mathlib.Core.Path.{_≡_};
 ghost use Prim.Native.Nat.{_<_};
 ghost use Rattle.smf.specs.Reader.{readFile};
+ghost use lib.ListN.{length};
 ghost use Rattle.smf.specs.Answer.{verdict};
+ghost use Rattle.smf_write.specs.Tidy.{tidyAnswer, tidyLeaves};
 ghost use Rattle.noferkash.specs.Packed.{packed};
 
 // The answer as one number of 64 bits.
@@ -21,4 +23,11 @@ pub extern "C" fn noferkash_check(file: &[u8]) -> u64
     ensures { λ r. ⌜ r ≡ packed (verdict (readFile (now (file .entry)))) ⌝ }
 {
     pack(smf::check::check(file))
+}
+
+#[no_mangle]
+pub extern "C" fn noferkash_tidy(file: &[u8], out: &mut [u8]) -> u64
+    ensures { λ r. ⌜ r ≡ packed (tidyAnswer (length (now (out .entry))) (readFile (now (file .entry)))) ⌝ ∗ ⌜ now (out .exit) ≡ tidyLeaves (readFile (now (file .entry))) (now (out .entry)) ⌝ }
+{
+    pack(smf_write::tidy::tidy(file, out))
 }

@@ -100,7 +100,7 @@ pub record Accepted (s : List ℕ) (b n : ℕ) : Type 0 where
   pub tracks : R s b n ≡ ok (piece .tracks) left
   pub count : length (piece .tracks) ≡ b
 
-accepted-piece : (s : List ℕ) (a b : ℕ) (d : Division) (n : ℕ) (p : Piece) (r : List ℕ) → Bytes s → headerStep (length s) (readHeader s) ≡ Fields a b d n → readFile s ≡ ok p r → Accepted s b n
+pub accepted-piece : (s : List ℕ) (a b : ℕ) (d : Division) (n : ℕ) (p : Piece) (r : List ℕ) → Bytes s → headerStep (length s) (readHeader s) ≡ Fields a b d n → readFile s ≡ ok p r → Accepted s b n
 unfolding readFile readPiece
 accepted-piece s a b d n p r bs e q =
     let there = head-at s a b d n bs e in

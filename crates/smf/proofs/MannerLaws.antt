@@ -1,5 +1,5 @@
 -- The two manners: each spelling is permitted where any is, so its file is a layout and reads back.
-use mathlib.Core.Path.{_≡_, refl, sym, ap, _∙_}
+use mathlib.Core.Path.{_≡_, refl}
 use Prim.Native.Nat.{ℕ, _≤_}
 use mathlib.Core.List.{List, [], _∷_}
 use native.Mathlib.Omega.{arith}
@@ -12,12 +12,12 @@ use Rattle.event.proofs.BytesLaws.{length-bigEndian}
 use Rattle.event.proofs.MannerLaws.{event-permitted, short-event}
 use Rattle.smf.specs.Piece.{Piece, LawfulPiece}
 use Rattle.smf.specs.Spelling.{PieceSpelling, PermittedEvents, PermittedTracks, PermittedPiece}
-use Rattle.smf.specs.Layout.{layEvents, layTrack, layTracks, layPiece, ShortTracks, LaidOut}
+use Rattle.smf.specs.Layout.{layEvents, layTrack, layTracks, ShortTracks, LaidOut}
 use Rattle.event.specs.Manner.{Manner, short, spellEvent}
 use Rattle.event.specs.Layout.{layEvent}
 use Rattle.smf.specs.Manner.{spellEvents, spellTracks, spelling, fileOf}
 use Rattle.smf.specs.Reader.{readPiece}
-use Rattle.smf.proofs.FileLaws.{header-size, piece-read}
+use Rattle.smf.proofs.FileLaws.{piece-read}
 
 pub events-permitted : (m : Manner) (prev force : ℕ) (es : List Event) (ss : List Spelling) → PermittedEvents prev force es ss
     → PermittedEvents prev force es (spellEvents m prev force es)
@@ -65,7 +65,7 @@ short-track : (es : List Event) (ss : List Spelling) → PermittedEvents 0 noSta
 unfolding layTrack
 short-track es ss p = let h = short-events 0 noStatus es ss p in simp (length-append, length-bigEndian) (omega arith)
 
-short-tracks : (ts : List (List Event)) (ss : List (List Spelling)) → PermittedTracks ts ss → length (layTracks ts (spellTracks short ts)) ≤ length (layTracks ts ss)
+pub short-tracks : (ts : List (List Event)) (ss : List (List Spelling)) → PermittedTracks ts ss → length (layTracks ts (spellTracks short ts)) ≤ length (layTracks ts ss)
 unfolding PermittedTracks spellTracks layTracks
 short-tracks [] ss p = omega arith
 short-tracks (t ∷ ts) [] p = absurd p
@@ -76,17 +76,6 @@ short-tracks (t ∷ ts) (s ∷ ss) p =
       length-append (layTrack t s) (layTracks ts ss),
       short-track t s (p .0),
       short-tracks ts ss (p .1),
-    )
-
-pub short-file : (f : List ℕ) (p : Piece) → LaidOut f p → length (fileOf short p) ≤ length f
-unfolding fileOf spelling layPiece PermittedPiece
-short-file f p l =
-    let n : ℕ = length (p .tracks) in
-    omega (
-      arith,
-      header-size (p .format) n (p .division) (layTracks (p .tracks) (spellTracks short (p .tracks))),
-      ap length (sym (l .bytes)) ∙ header-size (p .format) n (p .division) (layTracks (p .tracks) (l .spelling .tracks)),
-      short-tracks (p .tracks) (l .spelling .tracks) (l .has .permitted),
     )
 
 -- so the short manner's file of a piece that has a layout is a layout too

@@ -24,7 +24,7 @@ use Rattle.smf.proofs.FileLaws.{header-sound, header-size, header-rest,
 
 -- ---- what the code was given, as the readers' outcomes
 
-head-bad : (n k p : ℕ) (m : Outcome Header) → headerStep n m ≡ BadHeader k p → m ≡ refused k p
+pub head-bad : (n k p : ℕ) (m : Outcome Header) → headerStep n m ≡ BadHeader k p → m ≡ refused k p
 unfolding headerStep
 head-bad n k p (ok h r) e = let w : _≡_ {A = ℕ} 0 1 = cc in absurd (omega arith)
 head-bad n k p (refused j z) e = let a : j ≡ k = cc in let b : z ≡ p = cc in cc

@@ -1,0 +1,3 @@
+pub mod TidyLaws
+pub mod FileLaws
+pub mod AnswerLaws
