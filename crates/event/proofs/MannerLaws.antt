@@ -1,6 +1,6 @@
 -- The two manners of one event: each spelling is permitted where any is, and the short one takes no more bytes than any.
 use mathlib.Core.Path.{_≡_, refl, ap}
-use Prim.Native.Nat.{ℕ, _-_, _≤_}
+use Prim.Native.Nat.{ℕ, _-_, _*_, _≤_}
 use mathlib.Core.Bool.{Bool, true, false, false≢true}
 use mathlib.Core.List.{List}
 use native.Mathlib.Omega.{arith}
@@ -94,4 +94,41 @@ short-event prev force e s p =
       length-append (vlq (s .delta) d) (layFrame x (s .rest)),
       least-fewest (s .delta) d (p .delta),
       frame-shorter force x (s .rest) (p .rest),
+    )
+
+-- ---- and either manner at most twice as many
+
+-- the status written before some data bytes
+channel-full : (s : ℕ) (l : List ℕ) (o : Bool) → 1 ≤ length l → length (layChannel false s l) ≤ 2 * length (layChannel o s l)
+unfolding layChannel
+channel-full s l true h = omega arith
+channel-full s l false h = omega arith
+
+frame-full : (force : ℕ) (x : Frame) (s : Rest) → Spelled force x s → length (layFrame x (restIn full force x)) ≤ 2 * length (layFrame x s)
+unfolding Spelled layFrame restIn statusIn
+frame-full force (channel1 s a) (leftOut o) p = channel-full s _ o (omega arith)
+frame-full force (channel1 s a) (lengthIn w) p = absurd p
+frame-full force (channel2 s a b) (leftOut o) p = channel-full s _ o (omega arith)
+frame-full force (channel2 s a b) (lengthIn w) p = absurd p
+frame-full force (exclusive s d) (leftOut o) p = absurd p
+frame-full force (exclusive s d) (lengthIn w) p = let h = frame-shorter force (exclusive s d) (lengthIn w) p in omega arith
+frame-full force (meta t d) (leftOut o) p = absurd p
+frame-full force (meta t d) (lengthIn w) p = let h = frame-shorter force (meta t d) (lengthIn w) p in omega arith
+
+frame-twice : (m : Manner) (force : ℕ) (x : Frame) (s : Rest) → Spelled force x s → length (layFrame x (restIn m force x)) ≤ 2 * length (layFrame x s)
+frame-twice full force x s p = frame-full force x s p
+frame-twice short force x s p = omega (arith, frame-shorter force x s p)
+
+pub manner-event : (m : Manner) (prev force : ℕ) (e : Event) (s : Spelling) → Permitted prev force e s
+    → length (layEvent prev e (spellEvent m prev force e)) ≤ 2 * length (layEvent prev e s)
+unfolding layEvent spellEvent
+manner-event m prev force e s p =
+    let d : ℕ = e .time - prev in
+    let x : Frame = frame (e .kind) in
+    omega (
+      arith,
+      length-append (vlq (least d) d) (layFrame x (restIn m force x)),
+      length-append (vlq (s .delta) d) (layFrame x (s .rest)),
+      least-fewest (s .delta) d (p .delta),
+      frame-twice m force x (s .rest) (p .rest),
     )

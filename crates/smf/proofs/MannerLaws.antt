@@ -1,6 +1,6 @@
 -- The two manners: each spelling is permitted where any is, so its file is a layout and reads back.
 use mathlib.Core.Path.{_≡_, refl}
-use Prim.Native.Nat.{ℕ, _≤_}
+use Prim.Native.Nat.{ℕ, _*_, _≤_}
 use mathlib.Core.List.{List, [], _∷_}
 use native.Mathlib.Omega.{arith}
 use lib.ListN.{length, length-append}
@@ -9,7 +9,7 @@ use Rattle.event.specs.Frame.{frame, after, noStatus}
 use Rattle.event.specs.Spelling.{Spelling}
 use Rattle.event.specs.Outcome.{ok}
 use Rattle.event.proofs.BytesLaws.{length-bigEndian}
-use Rattle.event.proofs.MannerLaws.{event-permitted, short-event}
+use Rattle.event.proofs.MannerLaws.{event-permitted, short-event, manner-event}
 use Rattle.smf.specs.Piece.{Piece, LawfulPiece}
 use Rattle.smf.specs.Spelling.{PieceSpelling, PermittedEvents, PermittedTracks, PermittedPiece}
 use Rattle.smf.specs.Layout.{layEvents, layTrack, layTracks, ShortTracks, LaidOut}
@@ -61,21 +61,38 @@ short-events prev force (e ∷ es) (s ∷ ss) p =
       short-events (e .time) f es ss (p .1),
     )
 
-short-track : (es : List Event) (ss : List Spelling) → PermittedEvents 0 noStatus es ss → length (layTrack es (spellEvents short 0 noStatus es)) ≤ length (layTrack es ss)
-unfolding layTrack
-short-track es ss p = let h = short-events 0 noStatus es ss p in simp (length-append, length-bigEndian) (omega arith)
+-- ---- and either manner at most twice as many
 
-pub short-tracks : (ts : List (List Event)) (ss : List (List Spelling)) → PermittedTracks ts ss → length (layTracks ts (spellTracks short ts)) ≤ length (layTracks ts ss)
-unfolding PermittedTracks spellTracks layTracks
-short-tracks [] ss p = omega arith
-short-tracks (t ∷ ts) [] p = absurd p
-short-tracks (t ∷ ts) (s ∷ ss) p =
+pub manner-events : (m : Manner) (prev force : ℕ) (es : List Event) (ss : List Spelling) → PermittedEvents prev force es ss
+    → length (layEvents prev es (spellEvents m prev force es)) ≤ 2 * length (layEvents prev es ss)
+unfolding PermittedEvents spellEvents layEvents
+manner-events m prev force [] ss p = omega arith
+manner-events m prev force (e ∷ es) [] p = absurd p
+manner-events m prev force (e ∷ es) (s ∷ ss) p =
+    let f : ℕ = after (frame (e .kind)) in
     omega (
       arith,
-      length-append (layTrack t (spellEvents short 0 noStatus t)) (layTracks ts (spellTracks short ts)),
+      length-append (layEvent prev e (spellEvent m prev force e)) (layEvents (e .time) es (spellEvents m (e .time) f es)),
+      length-append (layEvent prev e s) (layEvents (e .time) es ss),
+      manner-event m prev force e s (p .0),
+      manner-events m (e .time) f es ss (p .1),
+    )
+
+manner-track : (m : Manner) (es : List Event) (ss : List Spelling) → PermittedEvents 0 noStatus es ss → length (layTrack es (spellEvents m 0 noStatus es)) ≤ 2 * length (layTrack es ss)
+unfolding layTrack
+manner-track m es ss p = let h = manner-events m 0 noStatus es ss p in simp (length-append, length-bigEndian) (omega arith)
+
+pub manner-tracks : (m : Manner) (ts : List (List Event)) (ss : List (List Spelling)) → PermittedTracks ts ss → length (layTracks ts (spellTracks m ts)) ≤ 2 * length (layTracks ts ss)
+unfolding PermittedTracks spellTracks layTracks
+manner-tracks m [] ss p = omega arith
+manner-tracks m (t ∷ ts) [] p = absurd p
+manner-tracks m (t ∷ ts) (s ∷ ss) p =
+    omega (
+      arith,
+      length-append (layTrack t (spellEvents m 0 noStatus t)) (layTracks ts (spellTracks m ts)),
       length-append (layTrack t s) (layTracks ts ss),
-      short-track t s (p .0),
-      short-tracks ts ss (p .1),
+      manner-track m t s (p .0),
+      manner-tracks m ts ss (p .1),
     )
 
 -- so the short manner's file of a piece that has a layout is a layout too

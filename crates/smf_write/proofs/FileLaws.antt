@@ -1,6 +1,6 @@
 -- Writing a file's own tracks and the whole file again, and the answers of tidying.
 use mathlib.Core.Path.{_≡_, refl, sym, ap, ap₂, subst, _∙_}
-use Prim.Native.Nat.{ℕ, zero, suc, _+_, _-_, _<_, _≤_}
+use Prim.Native.Nat.{ℕ, zero, suc, _+_, _-_, _*_, _<_, _≤_}
 use mathlib.Core.Bool.{Bool, true, false}
 use mathlib.Core.List.{List, [], _∷_, _++_}
 use native.Mathlib.Omega.{arith}
@@ -11,7 +11,7 @@ use Rattle.event.specs.Choice.{pick}
 use Rattle.event.specs.Bytes.{Bytes, bigEndian}
 use Rattle.event.specs.Event.{Event}
 use Rattle.event.specs.Frame.{noStatus}
-use Rattle.event.specs.Manner.{short}
+use Rattle.event.specs.Manner.{Manner, short}
 use Rattle.event.specs.Outcome.{Outcome, ok, refused, andThen, check, Readable, valueOr}
 use Rattle.event.proofs.OutcomeLaws.{cons-readable, cons-value, check-ok}
 use Rattle.event.proofs.BytesLaws.{bytes-drop, bytes-take}
@@ -31,28 +31,28 @@ use Rattle.smf.specs.declared.ChunkStep.the-variants.{Body, BadChunk}
 use Rattle.smf.specs.declared.HeaderStep.the-variants.{Fields, BadHeader}
 use Rattle.smf.proofs.TrackLaws.{all-read, events-sound}
 use Rattle.smf.proofs.FileLaws.{tracks-sound}
-use Rattle.smf.proofs.MannerLaws.{short-tracks}
+use Rattle.smf.proofs.MannerLaws.{manner-tracks}
 use Rattle.smf.proofs.RefusalLaws.{file-fair}
 use Rattle.smf.proofs.ChunkLaws.{chunk-bad, chunk-body}
 use Rattle.smf.proofs.VerdictLaws.{head-bad}
 use Rattle.smf.proofs.ListLaws.{R, Accepted, accepted-piece}
 use Rattle.smf.proofs.PieceReadLaws.{piece-is}
-use Rattle.smf_write.specs.Tidy.{writeAnswer, writeLeaves, tidyAnswer, tidyLeaves, shortTrack, shortTracks}
+use Rattle.smf_write.specs.Tidy.{writeAnswer, writeLeaves, tidyAnswer, tidyLeaves, trackIn, tracksIn}
 
 -- ---- a turn of the loop over the tracks: so many from the place at on
 
-abbrev pub TracksLeft : List ℕ → ℕ → ℕ → List ℕ
-TracksLeft s left at = shortTracks (valueOr [] (R s left at))
+abbrev pub TracksLeft : Manner → List ℕ → ℕ → ℕ → List ℕ
+TracksLeft m s left at = tracksIn m (valueOr [] (R s left at))
 
 pub tracks-stop : (s : List ℕ) (left at k p : ℕ) → 0 < left → chunkStep (length s) (readChunk at (drop at s)) ≡ BadChunk k p → Readable (R s left at) → ⊥
 unfolding readTracks readTrack andThen Readable
 tracks-stop s zero at k p z e h = omega arith
 tracks-stop s (suc n) at k p z e h = rw (chunk-bad (length s) k p (readChunk at (drop at s)) e) at h
 
-pub tracks-none : (s : List ℕ) (left at : ℕ) → left ≤ 0 → TracksLeft s left at ≡ []
+pub tracks-none : (m : Manner) (s : List ℕ) (left at : ℕ) → left ≤ 0 → TracksLeft m s left at ≡ []
 unfolding readTracks valueOr layTracks
-tracks-none s zero at h = refl
-tracks-none s (suc n) at h = absurd (omega arith)
+tracks-none m s zero at h = refl
+tracks-none m s (suc n) at h = absurd (omega arith)
 
 -- the events of a body are the same wherever it stands
 anywhere : (base prev force : ℕ) (l : List ℕ) (es : List Event) (q : List ℕ) → Bytes l → readAll base prev force l ≡ ok es q → readAll 0 prev force l ≡ ok es []
@@ -62,16 +62,16 @@ anywhere base prev force l es q bs e =
     rw (laid .bytes) (all-read 0 prev force es (laid .spelling) (laid .lawful) (laid .permitted))
 
 -- one track is written, n others are left
-pub record TrackTurn (s : List ℕ) (left n at a b : ℕ) : Type 0 where
+pub record TrackTurn (m : Manner) (s : List ℕ) (left n at a b : ℕ) : Type 0 where
   pub body : Readable (readAll 0 0 0 (take (b - a) (drop a s)))
   pub rest : Readable (R s n b)
-  pub bytes : TracksLeft s left at ≡ shortTrack (valueOr [] (readAll 0 0 0 (take (b - a) (drop a s)))) ++ TracksLeft s n b
+  pub bytes : TracksLeft m s left at ≡ trackIn m (valueOr [] (readAll 0 0 0 (take (b - a) (drop a s)))) ++ TracksLeft m s n b
 
-turn-with : (s : List ℕ) (n at a b : ℕ) (m : Outcome (List Event)) → Bytes (take (b - a) (drop a s)) → readAll (at + 8) 0 noStatus (take (b - a) (drop a s)) ≡ m
-    → R s (suc n) at ≡ andThen (andThen m (λ es q. ok es (drop b s))) (λ t r. andThen (readTracks n (at + (length (drop at s) - length r)) r) (λ ts q. ok (t ∷ ts) q))
-    → at + (length (drop at s) - length (drop b s)) ≡ b → Readable (R s (suc n) at) → TrackTurn s (suc n) n at a b
+turn-with : (m : Manner) (s : List ℕ) (n at a b : ℕ) (x : Outcome (List Event)) → Bytes (take (b - a) (drop a s)) → readAll (at + 8) 0 noStatus (take (b - a) (drop a s)) ≡ x
+    → R s (suc n) at ≡ andThen (andThen x (λ es q. ok es (drop b s))) (λ t r. andThen (readTracks n (at + (length (drop at s) - length r)) r) (λ ts q. ok (t ∷ ts) q))
+    → at + (length (drop at s) - length (drop b s)) ≡ b → Readable (R s (suc n) at) → TrackTurn m s (suc n) n at a b
 unfolding andThen layTracks spellTracks Readable valueOr
-turn-with s n at a b (ok es q) bs e step next good =
+turn-with m s n at a b (ok es q) bs e step next good =
     let there : readAll 0 0 0 (take (b - a) (drop a s)) ≡ ok es [] = anywhere (at + 8) 0 0 (take (b - a) (drop a s)) es q bs e in
     let one : R s (suc n) at ≡ andThen (R s n b) (λ ts r. ok (es ∷ ts) r) = step ∙ ap (λ z. andThen (readTracks n z (drop b s)) (λ ts r. ok (es ∷ ts) r)) next in
     let rest : Readable (R s n b) = cons-readable es (R s n b) (rw one at good) in
@@ -79,29 +79,29 @@ turn-with s n at a b (ok es q) bs e step next good =
     record {
       body = rw there tt;
       rest = rest;
-      bytes = ap shortTracks all ∙ ap (λ z. shortTrack (valueOr [] z) ++ TracksLeft s n b) (sym there);
+      bytes = ap (tracksIn m) all ∙ ap (λ z. trackIn m (valueOr [] z) ++ TracksLeft m s n b) (sym there);
     }
-turn-with s n at a b (refused k p) bs e step next good = absurd (rw step at good)
+turn-with m s n at a b (refused k p) bs e step next good = absurd (rw step at good)
 
-turn-one : (s : List ℕ) (n at a b : ℕ) → Bytes s → chunkStep (length s) (readChunk at (drop at s)) ≡ Body a b → Readable (R s (suc n) at) → TrackTurn s (suc n) n at a b
+turn-one : (m : Manner) (s : List ℕ) (n at a b : ℕ) → Bytes s → chunkStep (length s) (readChunk at (drop at s)) ≡ Body a b → Readable (R s (suc n) at) → TrackTurn m s (suc n) n at a b
 unfolding readTracks readTrack andThen
-turn-one s n at a b bs e good =
+turn-one m s n at a b bs e good =
     let there = chunk-body s at a b bs e in
     let next : at + (length (drop at s) - length (drop b s)) ≡ b = simp length-drop (omega (arith, there .begins, there .order, there .inside)) in
-    turn-with s n at a b _ (bytes-take (drop a s) (b - a) (bytes-drop s a bs)) refl (rw (there .read) refl) next good
+    turn-with m s n at a b _ (bytes-take (drop a s) (b - a) (bytes-drop s a bs)) refl (rw (there .read) refl) next good
 
-pub turn-track : (s : List ℕ) (left n at a b : ℕ) → left ≡ suc n → Bytes s → chunkStep (length s) (readChunk at (drop at s)) ≡ Body a b → Readable (R s left at) → TrackTurn s left n at a b
-turn-track s left n at a b q bs e good = rw q (turn-one s n at a b bs e (rw q at good))
+pub turn-track : (m : Manner) (s : List ℕ) (left n at a b : ℕ) → left ≡ suc n → Bytes s → chunkStep (length s) (readChunk at (drop at s)) ≡ Body a b → Readable (R s left at) → TrackTurn m s left n at a b
+turn-track m s left n at a b q bs e good = rw q (turn-one m s n at a b bs e (rw q at good))
 
-tracks-value : (s : List ℕ) (left at : ℕ) (m : Outcome (List (List Event))) → Bytes s → R s left at ≡ m → Readable m → length (shortTracks (valueOr [] m)) ≤ length (drop at s)
+tracks-value : (m : Manner) (s : List ℕ) (left at : ℕ) (x : Outcome (List (List Event))) → Bytes s → R s left at ≡ x → Readable x → length (tracksIn m (valueOr [] x)) ≤ 2 * length (drop at s)
 unfolding Readable valueOr
-tracks-value s left at (ok ts r) bs e g =
+tracks-value m s left at (ok ts r) bs e g =
     let laid = tracks-sound left at (drop at s) ts r (bytes-drop s at bs) e in
-    omega (arith, ap length (laid .bytes), length-append (layTracks ts (laid .spelling)) r, short-tracks ts (laid .spelling) (laid .permitted))
-tracks-value s left at (refused n p) bs e g = absurd g
+    omega (arith, ap length (laid .bytes), length-append (layTracks ts (laid .spelling)) r, manner-tracks m ts (laid .spelling) (laid .permitted))
+tracks-value m s left at (refused n p) bs e g = absurd g
 
-pub tracks-small : (s : List ℕ) (left at : ℕ) → Bytes s → Readable (R s left at) → length (TracksLeft s left at) ≤ length (drop at s)
-tracks-small s left at bs h = tracks-value s left at (R s left at) bs refl h
+pub tracks-small : (m : Manner) (s : List ℕ) (left at : ℕ) → Bytes s → Readable (R s left at) → length (TracksLeft m s left at) ≤ 2 * length (drop at s)
+tracks-small m s left at bs h = tracks-value m s left at (R s left at) bs refl h
 
 -- ---- the whole file
 
@@ -127,18 +127,18 @@ unfolding readFile
 read-piece s p r bs e = piece-is s p r bs (check-ok _ 1 0 _ p r e .1)
 
 -- the bytes of the file, as the code writes them
-pub file-bytes : (s : List ℕ) (a b : ℕ) (d : Division) (n : ℕ) → Bytes s → headerStep (length s) (readHeader s) ≡ Fields a b d n → Accepted s b n
-    → fileOf short (pieceRead s) ≡ layHeader a b (record { pulses = d .0 }) (TracksLeft s b n)
+pub file-bytes : (m : Manner) (s : List ℕ) (a b : ℕ) (d : Division) (n : ℕ) → Bytes s → headerStep (length s) (readHeader s) ≡ Fields a b d n → Accepted s b n
+    → fileOf m (pieceRead s) ≡ layHeader a b (record { pulses = d .0 }) (TracksLeft m s b n)
 unfolding fileOf layPiece spelling pieceRead pieceFrom valueOr
-file-bytes s a b d n bs e there =
+file-bytes m s a b d n bs e there =
     let p = there .piece in
     let same : pieceFrom s (headerStep (length s) (readHeader s)) ≡ p = read-piece s p (there .rest) bs (there .read) in
     let head : pieceFrom s (Fields a b d n) ≡ p = ap (pieceFrom s) (sym e) ∙ same in
     let format : p .format ≡ a = ap (λ z. z .format) (sym head) in
     let division : p .division ≡ record { pulses = d .0 } = ap (λ z. z .division) (sym head) in
-    let tracks : shortTracks (p .tracks) ≡ TracksLeft s b n = ap (λ z. shortTracks (valueOr [] z)) (sym (there .tracks)) in
-    ap (λ z. layHeader (z .format) (length (z .tracks)) (z .division) (shortTracks (z .tracks))) same
-    ∙ ap₂ (λ x y. layHeader x y (p .division) (shortTracks (p .tracks))) format (there .count)
+    let tracks : tracksIn m (p .tracks) ≡ TracksLeft m s b n = ap (λ z. tracksIn m (valueOr [] z)) (sym (there .tracks)) in
+    ap (λ z. layHeader (z .format) (length (z .tracks)) (z .division) (tracksIn m (z .tracks))) same
+    ∙ ap₂ (λ x y. layHeader x y (p .division) (tracksIn m (p .tracks))) format (there .count)
     ∙ ap₂ (layHeader a b) division tracks
 
 -- ---- the answers of tidying

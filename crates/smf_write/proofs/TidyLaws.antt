@@ -1,6 +1,6 @@
 -- Writing a file's own events again: the turns of the loops over events and tracks.
 use mathlib.Core.Path.{_≡_, refl, sym, ap, ap₂, subst, _∙_}
-use Prim.Native.Nat.{ℕ, suc, _+_, _-_, _<_, _≤_}
+use Prim.Native.Nat.{ℕ, suc, _+_, _-_, _*_, _<_, _≤_}
 use mathlib.Core.Bool.{true, false}
 use mathlib.Core.List.{List, [], _∷_, _++_, append-nil}
 use native.Mathlib.Omega.{arith}
@@ -16,7 +16,7 @@ use Rattle.event.proofs.ChoiceLaws.{by-test}
 use Rattle.event.specs.Event.{Event, isEnd}
 use Rattle.event.specs.Frame.{frame, after}
 use Rattle.event.specs.Layout.{layEvent}
-use Rattle.event.specs.Manner.{short, spellEvent}
+use Rattle.event.specs.Manner.{Manner, spellEvent}
 use Rattle.event.specs.Outcome.{Outcome, ok, refused, andThen, placed, Readable, valueOr}
 use Rattle.event.specs.Reader.{readEvent}
 use Rattle.event.specs.Step.{kindAt, kindFrom, endOf, eventStep}
@@ -37,9 +37,9 @@ use Rattle.smf.specs.Layout.{layEvents}
 use Rattle.smf.specs.Manner.{spellEvents}
 use Rattle.smf.specs.Reader.{ended, goOn, readAll}
 use Rattle.smf.proofs.TrackLaws.{all-step, events-sound}
-use Rattle.smf.proofs.MannerLaws.{short-events}
+use Rattle.smf.proofs.MannerLaws.{manner-events}
 use Rattle.smf.proofs.WalkLaws.{step-ok, step-bad}
-use Rattle.smf_write.specs.Tidy.{shortEvents, stepOf}
+use Rattle.smf_write.specs.Tidy.{eventsIn, stepOf}
 
 -- ---- a turn of the loop over a track's events: the body's bytes from the place at on
 
@@ -47,8 +47,8 @@ abbrev pub A : List ℕ → ℕ → ℕ → ℕ → Outcome (List Event)
 A s at t f = readAll at t f (drop at s)
 
 -- what is left to write
-abbrev pub Left : List ℕ → ℕ → ℕ → ℕ → List ℕ
-Left s at t f = shortEvents t f (valueOr [] (A s at t f))
+abbrev pub Left : Manner → List ℕ → ℕ → ℕ → ℕ → List ℕ
+Left m s at t f = eventsIn m t f (valueOr [] (A s at t f))
 
 pub turn-stop : (s : List ℕ) (at t f k : ℕ) → Bytes s → eventStep (length s) (readEvent t f (drop at s)) ≡ Stop k → Readable (A s at t f) → ⊥
 unfolding andThen placed Readable
@@ -59,11 +59,11 @@ unfolding ended Readable valueOr
 end-value at e [] h = refl
 end-value at e (b ∷ r) h = absurd h
 
-module _ (s : List ℕ) (at t f : ℕ) (bs : Bytes s) (h : at ≤ length s) (good : Readable (A s at t f)) (u : Time) (k : EventKind) (q st : ℕ) (given : eventStep (length s) (readEvent t f (drop at s)) ≡ Read u k q st) where
+module _ (m : Manner) (s : List ℕ) (at t f : ℕ) (bs : Bytes s) (h : at ≤ length s) (good : Readable (A s at t f)) (u : Time) (k : EventKind) (q st : ℕ) (given : eventStep (length s) (readEvent t f (drop at s)) ≡ Read u k q st) where
   -- the event that was read, and what it is written as
   came : {X : Type 0}
       → ((e : Event) → at < q → q ≤ length s → endOf k ≡ isEnd (e .kind) → e .time ≡ u .0 → after (frame (e .kind)) ≡ st
-      → layEvent t e (spellEvent short t f e) ≡ headBytes short f (u .0 - t) k ++ dataOf (kindFrom s k)
+      → layEvent t e (spellEvent m t f e) ≡ headBytes m f (u .0 - t) k ++ dataOf (kindFrom s k)
       → A s at t f ≡ goOn (isEnd (e .kind)) q e (drop q s) (A s q (u .0) st) → X) → X
   unfolding andThen placed
   came g =
@@ -74,10 +74,10 @@ module _ (s : List ℕ) (at t f : ℕ) (bs : Bytes s) (h : at ≤ length s) (goo
       ap (kindFrom s) (sym pk ∙ ap (λ z. kindAt z (e .kind)) (sym (place-back s q le)))
       ∙ kind-there t f e (laid .spelling) s (drop q s) at (laid .lawful) (laid .permitted) (laid .bytes) h
       in
-      let item : layEvent t e (spellEvent short t f e) ≡ headBytes short f (u .0 - t) k ++ dataOf (kindFrom s k) =
-      event-bytes short t f q e (laid .lawful) (laid .spelling) (laid .permitted)
-      ∙ ap₂ (λ x y. headBytes short f (x - t) y ++ dataOf (e .kind)) time pk
-      ∙ ap (λ z. headBytes short f (u .0 - t) k ++ dataOf z) (sym there)
+      let item : layEvent t e (spellEvent m t f e) ≡ headBytes m f (u .0 - t) k ++ dataOf (kindFrom s k) =
+      event-bytes m t f q e (laid .lawful) (laid .spelling) (laid .permitted)
+      ∙ ap₂ (λ x y. headBytes m f (x - t) y ++ dataOf (e .kind)) time pk
+      ∙ ap (λ z. headBytes m f (u .0 - t) k ++ dataOf z) (sym there)
       in
       let next : at + (length (drop at s) - length (drop q s)) ≡ q = simp length-drop (omega arith) in
       let whole : A s at t f ≡ goOn (isEnd (e .kind)) q e (drop q s) (A s q (u .0) st) =
@@ -88,7 +88,7 @@ module _ (s : List ℕ) (at t f : ℕ) (bs : Bytes s) (h : at ≤ length s) (goo
   pub turn-place : (at < q) × (q ≤ length s)
   turn-place = came (λ e lt le pe time ps item whole. (lt, le))
 
-  pub turn-next : endOf k ≡ false → Readable (A s q (u .0) st) × (Left s at t f ≡ headBytes short f (u .0 - t) k ++ dataOf (kindFrom s k) ++ Left s q (u .0) st)
+  pub turn-next : endOf k ≡ false → Readable (A s q (u .0) st) × (Left m s at t f ≡ headBytes m f (u .0 - t) k ++ dataOf (kindFrom s k) ++ Left m s q (u .0) st)
   unfolding goOn layEvents spellEvents
   turn-next last =
       came (λ e lt le pe time ps item whole.
@@ -96,26 +96,26 @@ module _ (s : List ℕ) (at t f : ℕ) (bs : Bytes s) (h : at ≤ length s) (goo
       let rest : Readable (A s q (u .0) st) = cons-readable e (A s q (u .0) st) (rw step at good) in
       let all : valueOr [] (A s at t f) ≡ e ∷ valueOr [] (A s q (u .0) st) = ap (valueOr []) step ∙ cons-value e (A s q (u .0) st) rest in
       let es : List Event = valueOr [] (A s q (u .0) st) in
-      (rest, ap (shortEvents t f) all ∙ ap₂ (λ x y. x ++ shortEvents y (after (frame (e .kind))) es) item time ∙ ap (λ z. headBytes short f (u .0 - t) k ++ dataOf (kindFrom s k) ++ shortEvents (u .0) z es) ps))
+      (rest, ap (eventsIn m t f) all ∙ ap₂ (λ x y. x ++ eventsIn m y (after (frame (e .kind))) es) item time ∙ ap (λ z. headBytes m f (u .0 - t) k ++ dataOf (kindFrom s k) ++ eventsIn m (u .0) z es) ps))
 
-  pub turn-end : endOf k ≡ true → Left s at t f ≡ headBytes short f (u .0 - t) k ++ dataOf (kindFrom s k)
+  pub turn-end : endOf k ≡ true → Left m s at t f ≡ headBytes m f (u .0 - t) k ++ dataOf (kindFrom s k)
   unfolding goOn layEvents spellEvents
   turn-end last =
       came (λ e lt le pe time ps item whole.
       let step : A s at t f ≡ ended q e (drop q s) = whole ∙ ap (λ z. goOn z q e (drop q s) (A s q (u .0) st)) (sym pe ∙ last) in
       let all : valueOr [] (A s at t f) ≡ e ∷ [] = ap (valueOr []) step ∙ end-value q e (drop q s) (rw step at good) in
-      ap (shortEvents t f) all ∙ append-nil _ ∙ item)
+      ap (eventsIn m t f) all ∙ append-nil _ ∙ item)
 
-value-small : (s : List ℕ) (at t f : ℕ) → Bytes s → (m : Outcome (List Event)) → A s at t f ≡ m → Readable m → length (shortEvents t f (valueOr [] m)) ≤ length (drop at s)
+value-small : (m : Manner) (s : List ℕ) (at t f : ℕ) → Bytes s → (x : Outcome (List Event)) → A s at t f ≡ x → Readable x → length (eventsIn m t f (valueOr [] x)) ≤ 2 * length (drop at s)
 unfolding Readable valueOr readAll
-value-small s at t f bs (ok es r) e g =
+value-small m s at t f bs (ok es r) e g =
     let laid = events-sound (suc (length (drop at s))) at t f (drop at s) es r (bytes-drop s at bs) e in
-    rw (laid .bytes) (short-events t f es (laid .spelling) (laid .permitted))
-value-small s at t f bs (refused n p) e g = absurd g
+    rw (laid .bytes) (manner-events m t f es (laid .spelling) (laid .permitted))
+value-small m s at t f bs (refused n p) e g = absurd g
 
--- the events that are left take no more bytes than the body
-pub left-small : (s : List ℕ) (at t f : ℕ) → Bytes s → Readable (A s at t f) → length (Left s at t f) ≤ length (drop at s)
-left-small s at t f bs h = value-small s at t f bs (A s at t f) refl h
+-- the events that are left take at most twice the bytes of the body
+pub left-small : (m : Manner) (s : List ℕ) (at t f : ℕ) → Bytes s → Readable (A s at t f) → length (Left m s at t f) ≤ 2 * length (drop at s)
+left-small m s at t f bs h = value-small m s at t f bs (A s at t f) refl h
 
 -- ---- the delta
 

@@ -8,7 +8,7 @@ use Rattle.event.specs.Choice.{pick}
 use Rattle.event.specs.Outcome.{Outcome, ok, refused}
 use Rattle.event.specs.Event.{Event}
 use Rattle.event.specs.Frame.{noStatus}
-use Rattle.event.specs.Manner.{short}
+use Rattle.event.specs.Manner.{Manner, short}
 use Rattle.event.specs.declared.Delta.{Delta}
 use Rattle.smf.specs.Piece.{Piece}
 use Rattle.smf.specs.Layout.{layEvents, layTrack, layTracks}
@@ -33,17 +33,17 @@ unfoldable pub tidyLeaves : Outcome Piece → List ℕ → List ℕ
 tidyLeaves (ok p r) old = writeLeaves (fileOf short p) old
 tidyLeaves (refused n q) old = old
 
--- ---- what the writers of its parts write
+-- ---- what the writers of its parts write, in either manner
 
 -- the events of a track, after the Time prev, with the status force in force
-abbrev pub shortEvents : ℕ → ℕ → List Event → List ℕ
-shortEvents prev force es = layEvents prev es (spellEvents short prev force es)
+abbrev pub eventsIn : Manner → ℕ → ℕ → List Event → List ℕ
+eventsIn m prev force es = layEvents prev es (spellEvents m prev force es)
 
-abbrev pub shortTrack : List Event → List ℕ
-shortTrack es = layTrack es (spellEvents short 0 noStatus es)
+abbrev pub trackIn : Manner → List Event → List ℕ
+trackIn m es = layTrack es (spellEvents m 0 noStatus es)
 
-abbrev pub shortTracks : List (List Event) → List ℕ
-shortTracks ts = layTracks ts (spellTracks short ts)
+abbrev pub tracksIn : Manner → List (List Event) → List ℕ
+tracksIn m ts = layTracks ts (spellTracks m ts)
 
 -- the delta from the Time u to the Time t
 abbrev pub stepOf : ℕ → ℕ → Delta

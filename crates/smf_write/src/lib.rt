@@ -1,2 +1,2 @@
-// Files written: a file's own events written again in the short manner.
+// Files written: a file's own events written again.
 pub mod tidy; // tidy.rt: tidying

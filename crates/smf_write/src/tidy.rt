@@ -1,18 +1,17 @@
-// Tidying: a file's piece written again in manner 1. Each writer writes only where there is room and
-// answers the place after: lent no room, it measures.
+// Tidying: a file's piece written again in manner 1. The writers below take the manner, short or
+// full; each writes only where there is room and answers the place after: lent no room, it measures.
 ghost use mathlib.Core.Path.{_≡_};
 ghost use mathlib.Core.List.{[], _++_};
 ghost use Prim.Native.Nat.{_≤_, _<_, _^_};
 ghost use lib.ListN.{length, drop};
 ghost use Rattle.event.specs.Outcome.{Readable, valueOr};
-ghost use Rattle.event.specs.Manner.{short};
 ghost use Rattle.event.specs.Step.{kindFrom};
 ghost use Rattle.event_write.specs.Written.{Written};
-ghost use Rattle.event_write.specs.Head.{headBytes, dataOf};
+ghost use Rattle.event_write.specs.Head.{mannerOf, headBytes, dataOf};
 ghost use Rattle.smf.specs.Reader.{readAll, readTracks, readFile};
 ghost use Rattle.smf.specs.Manner.{fileOf};
 ghost use Rattle.smf.specs.PieceRead.{pieceRead};
-ghost use Rattle.smf_write.specs.Tidy.{stepOf, shortEvents, shortTrack, shortTracks, tidyAnswer, tidyLeaves};
+ghost use Rattle.smf_write.specs.Tidy.{stepOf, eventsIn, trackIn, tracksIn, tidyAnswer, tidyLeaves};
 use event::Delta;
 use event::EventKind;
 use event::EventStep;
@@ -33,11 +32,12 @@ fn put_event(
     kind: EventKind,
     force: u8,
     body: &[u8],
+    short: bool,
 ) -> usize
     requires { ⌜ at < 2 ^ 42 ⌝ ∗ ⌜ length (now body) < 2 ^ 42 ⌝ }
-    ensures { λ r. ⌜ Written (now (out .entry)) at (headBytes short force (delta .0) kind ++ dataOf (kindFrom (now (body .entry)) kind)) (now (out .exit)) r ⌝ }
+    ensures { λ r. ⌜ Written (now (out .entry)) at (headBytes (mannerOf short) force (delta .0) kind ++ dataOf (kindFrom (now (body .entry)) kind)) (now (out .exit)) r ⌝ }
 {
-    let p = event_write::head::put_head(out, at, delta, kind, force, true);
+    let p = event_write::head::put_head(out, at, delta, kind, force, short);
     let place = event::read::data_place(kind);
     let start = place.start;
     let len = place.len;
@@ -55,9 +55,9 @@ fn step(time: Time, earlier: Time) -> Delta
 }
 
 // The events of a track's body, which are known to read.
-fn put_events(out: &mut [u8], from: usize, body: &[u8]) -> usize
-    requires { ⌜ from < 2 ^ 40 ⌝ ∗ ⌜ length (now body) ≤ 4294967295 ⌝ ∗ ⌜ Readable (readAll 0 0 0 (now body)) ⌝ }
-    ensures { λ r. ⌜ Written (now (out .entry)) from (shortEvents 0 0 (valueOr [] (readAll 0 0 0 (now (body .entry))))) (now (out .exit)) r ⌝ }
+fn put_events(out: &mut [u8], from: usize, body: &[u8], short: bool) -> usize
+    requires { ⌜ from < 2 ^ 40 ⌝ ∗ ⌜ length (now body) ≤ 1048576 ⌝ ∗ ⌜ Readable (readAll 0 0 0 (now body)) ⌝ }
+    ensures { λ r. ⌜ Written (now (out .entry)) from (eventsIn (mannerOf short) 0 0 (valueOr [] (readAll 0 0 0 (now (body .entry))))) (now (out .exit)) r ⌝ }
 {
     let mut next = from;
     let mut at: usize = 0;
@@ -75,7 +75,7 @@ fn put_events(out: &mut [u8], from: usize, body: &[u8]) -> usize
                 status: s,
             } => {
                 let delta = step(t, time);
-                next = put_event(out, next, delta, kind, status, body);
+                next = put_event(out, next, delta, kind, status, body, short);
                 if event::read::is_end(kind) {
                     return next;
                 }
@@ -88,20 +88,27 @@ fn put_events(out: &mut [u8], from: usize, body: &[u8]) -> usize
 }
 
 // A track's chunk: the number of bytes its events take, and those bytes.
-fn put_track(out: &mut [u8], at: usize, body: &[u8]) -> usize
-    requires { ⌜ at < 2 ^ 39 ⌝ ∗ ⌜ length (now body) ≤ 4294967295 ⌝ ∗ ⌜ Readable (readAll 0 0 0 (now body)) ⌝ }
-    ensures { λ r. ⌜ Written (now (out .entry)) at (shortTrack (valueOr [] (readAll 0 0 0 (now (body .entry))))) (now (out .exit)) r ⌝ }
+fn put_track(out: &mut [u8], at: usize, body: &[u8], short: bool) -> usize
+    requires { ⌜ at < 2 ^ 39 ⌝ ∗ ⌜ length (now body) ≤ 1048576 ⌝ ∗ ⌜ Readable (readAll 0 0 0 (now body)) ⌝ }
+    ensures { λ r. ⌜ Written (now (out .entry)) at (trackIn (mannerOf short) (valueOr [] (readAll 0 0 0 (now (body .entry))))) (now (out .exit)) r ⌝ }
 {
-    let size = put_events(&mut out[..0], 0, body);
+    let size = put_events(&mut out[..0], 0, body, short);
     let p = put_four(out, at, 0x4D54726B);
     let q = put_four(out, p, size as u32);
-    put_events(out, q, body)
+    put_events(out, q, body, short)
 }
 
 // So many tracks from a place of the file on, which are known to read.
-fn put_tracks(out: &mut [u8], from: usize, file: &[u8], count: u32, first: usize) -> usize
+fn put_tracks(
+    out: &mut [u8],
+    from: usize,
+    file: &[u8],
+    count: u32,
+    first: usize,
+    short: bool,
+) -> usize
     requires { ⌜ from < 2 ^ 38 ⌝ ∗ ⌜ first ≤ length (now file) ⌝ ∗ ⌜ length (now file) ≤ 1048576 ⌝ ∗ ⌜ Readable (readTracks count first (drop first (now file))) ⌝ }
-    ensures { λ r. ⌜ Written (now (out .entry)) from (shortTracks (valueOr [] (readTracks count first (drop first (now (file .entry)))))) (now (out .exit)) r ⌝ }
+    ensures { λ r. ⌜ Written (now (out .entry)) from (tracksIn (mannerOf short) (valueOr [] (readTracks count first (drop first (now (file .entry)))))) (now (out .exit)) r ⌝ }
 {
     let mut next = from;
     let mut at = first;
@@ -112,7 +119,7 @@ fn put_tracks(out: &mut [u8], from: usize, file: &[u8], count: u32, first: usize
                 return next;
             }
             ChunkStep::Body { start, end } => {
-                next = put_track(out, next, &file[start..end]);
+                next = put_track(out, next, &file[start..end], short);
                 at = end;
                 left = left - 1;
             }
@@ -121,10 +128,10 @@ fn put_tracks(out: &mut [u8], from: usize, file: &[u8], count: u32, first: usize
     next
 }
 
-// The manner 1 file of the piece of a file that is known to read.
-fn put_file(out: &mut [u8], file: &[u8]) -> usize
+// The file, in the manner asked, of the piece of a file that is known to read.
+fn put_file(out: &mut [u8], file: &[u8], short: bool) -> usize
     requires { ⌜ length (now file) ≤ 1048576 ⌝ ∗ ⌜ Readable (readFile (now file)) ⌝ }
-    ensures { λ r. ⌜ Written (now (out .entry)) 0 (fileOf short (pieceRead (now (file .entry)))) (now (out .exit)) r ⌝ }
+    ensures { λ r. ⌜ Written (now (out .entry)) 0 (fileOf (mannerOf short) (pieceRead (now (file .entry)))) (now (out .exit)) r ⌝ }
 {
     match smf::header::read_header(file) {
         HeaderStep::BadHeader { number, place } => 0,
@@ -140,7 +147,7 @@ fn put_file(out: &mut [u8], file: &[u8]) -> usize
             let c = put_two(out, b, format);
             let d = put_two(out, c, count);
             let e = put_two(out, d, pulses);
-            put_tracks(out, e, file, count, next)
+            put_tracks(out, e, file, count, next, short)
         }
     }
 }
@@ -154,13 +161,13 @@ pub fn tidy(file: &[u8], out: &mut [u8]) -> Answer
     if refused != 0 {
         return verdict;
     }
-    let need = put_file(&mut out[..0], file);
+    let need = put_file(&mut out[..0], file, true);
     if 1048576 < need {
         return Answer::refusal(29, 0);
     }
     if out.len() < need {
         return Answer::room_needed(need);
     }
-    put_file(out, file);
+    put_file(out, file, true);
     Answer::success(need)
 }

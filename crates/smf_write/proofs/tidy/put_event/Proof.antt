@@ -1,5 +1,4 @@
 use Rattle.event.specs.Step.{dataAt}
-use Rattle.event.specs.Manner.{short}
 use Rattle.event_write.specs.Head.{mannerOf}
 use Rattle.event_write.proofs.WriteLaws.{then}
 use Rattle.event_write.proofs.DataLaws.{data-in, data-length, head-length}
@@ -19,16 +18,14 @@ event-data-requires : tie.Need-event-data-requires
 event-data-requires c κs = search needs
 
 put-bytes-requires : tie.Need-put-bytes-requires
-unfolding mannerOf
 put-bytes-requires c κs = let a = c .before .before .before .before .before .before .before .before .before .args in
     let d = c .before .before .data-place .result in
-    (omega (arith, c .before .before .before .before .before .put-head .ensures .place, head-length short (a .force) (a .delta .0) (a .kind), c .before .before .before .before .before .before .before .before .before .pre .0), rw (c .event-data .ensures) (omega (arith, data-length (a .body .now) (d .start) (d .len), c .before .before .before .before .before .before .before .before .before .pre .1)))
+    (omega (arith, c .before .before .before .before .before .put-head .ensures .place, head-length (mannerOf (a .short)) (a .force) (a .delta .0) (a .kind), c .before .before .before .before .before .before .before .before .before .pre .0), rw (c .event-data .ensures) (omega (arith, data-length (a .body .now) (d .start) (d .len), c .before .before .before .before .before .before .before .before .before .pre .1)))
 
 same-length : tie.Need-same-length
 same-length c = search needs
 
 returns : tie.Need-returns
-unfolding mannerOf
 returns c = let a = c .before .before .before .before .before .before .before .before .before .before .before .before .args in
     let d = c .before .before .before .before .before .data-place in
     let same = c .before .before .before .event-data .ensures ∙ ap (λ z. dataAt (a .body .now) (z .start) (z .len)) (d .ensures) ∙ data-in (a .body .now) (a .kind) in

@@ -1,12 +1,11 @@
 use Rattle.event.specs.Step.{kindFrom}
 use Rattle.event.specs.declared.Delta.{Delta}
-use Rattle.event_write.specs.Head.{headBytes, dataOf}
+use Rattle.event_write.specs.Head.{mannerOf, headBytes, dataOf}
 use Rattle.smf_write.proofs.TidyLaws.{go-on, finish}
 use Prim.Native.Nat.{ℕ, _+_, _-_, _≤_}
 use mathlib.Core.List.{List, _++_}
 use lib.ListN.{length}
 use Rattle.event.specs.Outcome.{Readable}
-use Rattle.event.specs.Manner.{short}
 use Rattle.event.proofs.BytesLaws.{bytes-of}
 use Rattle.event_write.proofs.WriteLaws.{Remains, all-remains}
 use Rattle.smf_write.proofs.TidyLaws.{A, Left, turn-stop, turn-place, turn-next, turn-end, left-small}
@@ -17,10 +16,10 @@ use Rattle.smf_write.proofs.tidy.put_events.Statement.{statement}
 use Rattle.smf_write.proofs.tidy.put_events.Tie as tie
 
 abbrev Inv-loop : tie.InvT-loop
-Inv-loop out₀ from body next₀ at₀ time₀ status₀ out next at time status = (at ≤ length body) × (length out ≡ length out₀) × Readable (A body at (time .0) status) × Remains out₀ from (Left body 0 0 0) out next (Left body at (time .0) status)
+Inv-loop out₀ from body short next₀ at₀ time₀ status₀ out next at time status = (at ≤ length body) × (length out ≡ length out₀) × Readable (A body at (time .0) status) × Remains out₀ from (Left (mannerOf short) body 0 0 0) out next (Left (mannerOf short) body at (time .0) status)
 
 abbrev μ-loop : tie.MeasureT-loop
-μ-loop out₀ from body next₀ at₀ time₀ status₀ out next at time status = length body - at
+μ-loop out₀ from body short next₀ at₀ time₀ status₀ out next at time status = length body - at
 
 loop-holds : tie.Need-loop-holds Inv-loop μ-loop
 loop-holds c = (omega arith, refl, c .before .before .pre .1 .1, all-remains _ _ _)
@@ -52,7 +51,7 @@ put-event-requires c κs = let a = c .before .before .before .before .before .be
     let s = a .body .now in
     let l = c .before .before .before .before .before .before .loop in
     let bytes = bytes-of s (λ i. omega (arith, c .before .before .before .before .before .before .before .shared-slice-known .given i)) in
-    (omega (arith, l .inv .3 .place, left-small s 0 0 0 bytes (c .before .before .before .before .before .before .before .before .before .pre .1 .1), c .before .before .before .before .before .before .before .before .before .pre .0, c .before .before .before .before .before .before .before .before .before .pre .1 .0), omega (arith, c .before .before .before .before .before .before .before .before .before .pre .1 .0))
+    (omega (arith, l .inv .3 .place, left-small (mannerOf (a .short)) s 0 0 0 bytes (c .before .before .before .before .before .before .before .before .before .pre .1 .1), c .before .before .before .before .before .before .before .before .before .pre .0, c .before .before .before .before .before .before .before .before .before .pre .1 .0), omega (arith, c .before .before .before .before .before .before .before .before .before .pre .1 .0))
 
 is-end-requires : tie.Need-is-end-requires Inv-loop μ-loop
 is-end-requires c κs = search needs
@@ -72,8 +71,8 @@ returns-2 c = let a = c .before .before .before .before .before .before .before 
     let q = g .0 .1 .1 .0 in
     let st = g .0 .1 .1 .1 .0 in
     let delta = ap (λ (d : Delta). d .0) (c .before .before .before .before .before .before .step .ensures) in
-    let item : ℕ → List ℕ = λ z. headBytes short (l .status) z k ++ dataOf (kindFrom s k) in
-    finish _ _ (l .inv .3) (turn-end s (l .at) (l .time .0) (l .status) bytes (l .inv .0) (l .inv .2) u k q st came (sym (c .before .is-end .ensures) ∙ c .if1 .taken) ∙ ap item (sym delta)) (c .before .before .before .before .put-event .ensures)
+    let item : ℕ → List ℕ = λ z. headBytes (mannerOf (a .short)) (l .status) z k ++ dataOf (kindFrom s k) in
+    finish _ _ (l .inv .3) (turn-end (mannerOf (a .short)) s (l .at) (l .time .0) (l .status) bytes (l .inv .0) (l .inv .2) u k q st came (sym (c .before .is-end .ensures) ∙ c .if1 .taken) ∙ ap item (sym delta)) (c .before .before .before .before .put-event .ensures)
 
 loop-less : tie.Need-loop-less Inv-loop μ-loop
 loop-less c = let a = c .before .before .before .before .before .before .before .before .before .before .before .before .before .before .args in
@@ -86,7 +85,7 @@ loop-less c = let a = c .before .before .before .before .before .before .before 
     let k = g .0 .1 .0 in
     let q = g .0 .1 .1 .0 in
     let st = g .0 .1 .1 .1 .0 in
-    omega (arith, turn-place s (l .at) (l .time .0) (l .status) bytes (l .inv .0) (l .inv .2) u k q st came)
+    omega (arith, turn-place (mannerOf (a .short)) s (l .at) (l .time .0) (l .status) bytes (l .inv .0) (l .inv .2) u k q st came)
 
 loop-again : tie.Need-loop-again Inv-loop μ-loop
 loop-again c = let a = c .before .before .before .before .before .before .before .before .before .before .before .before .before .before .args in
@@ -100,10 +99,10 @@ loop-again c = let a = c .before .before .before .before .before .before .before
     let q = g .0 .1 .1 .0 in
     let st = g .0 .1 .1 .1 .0 in
     let delta = ap (λ (d : Delta). d .0) (c .before .before .before .before .before .before .step .ensures) in
-    let item : ℕ → List ℕ = λ z. headBytes short (l .status) z k ++ dataOf (kindFrom s k) in
-    let p = turn-place s (l .at) (l .time .0) (l .status) bytes (l .inv .0) (l .inv .2) u k q st came in
-    let n = turn-next s (l .at) (l .time .0) (l .status) bytes (l .inv .0) (l .inv .2) u k q st came (sym (c .before .is-end .ensures) ∙ c .if1 .left) in
-    (p .1, c .before .before .before .before .put-event .kept .0 ∙ l .inv .1, n .0, go-on _ _ _ (l .inv .3) (n .1 ∙ ap (λ z. item z ++ Left s q (u .0) st) (sym delta)) (c .before .before .before .before .put-event .ensures))
+    let item : ℕ → List ℕ = λ z. headBytes (mannerOf (a .short)) (l .status) z k ++ dataOf (kindFrom s k) in
+    let p = turn-place (mannerOf (a .short)) s (l .at) (l .time .0) (l .status) bytes (l .inv .0) (l .inv .2) u k q st came in
+    let n = turn-next (mannerOf (a .short)) s (l .at) (l .time .0) (l .status) bytes (l .inv .0) (l .inv .2) u k q st came (sym (c .before .is-end .ensures) ∙ c .if1 .left) in
+    (p .1, c .before .before .before .before .put-event .kept .0 ∙ l .inv .1, n .0, go-on _ _ _ (l .inv .3) (n .1 ∙ ap (λ z. item z ++ Left (mannerOf (a .short)) s q (u .0) st) (sym delta)) (c .before .before .before .before .put-event .ensures))
 
 pub put-events-spec : {M : Type 1} → statement M
 put-events-spec =

@@ -1,5 +1,6 @@
 use Rattle.event.proofs.BytesLaws.{bytes-of, length-bigEndian}
 use Rattle.event_write.proofs.WriteLaws.{then}
+use Rattle.event_write.specs.Head.{mannerOf}
 use Rattle.smf.specs.Layout.{headerTag, layHeader, layDivision}
 use Rattle.smf.proofs.VerdictLaws.{head-at}
 use Rattle.smf.proofs.ListLaws.{accepted-readable}
@@ -53,12 +54,13 @@ same-length c = search needs
 
 returns-2 : tie.Need-returns-2
 unfolding layHeader layDivision
-returns-2 c = let s = c .before .before .before .before .before .before .before .before .before .before .before .before .before .before .before .before .before .before .before .before .before .before .before .before .before .before .before .before .before .before .args .file .now in
+returns-2 c = let a = c .before .before .before .before .before .before .before .before .before .before .before .before .before .before .before .before .before .before .before .before .before .before .before .before .before .before .before .before .before .before .args in
+    let s = a .file .now in
     let bytes = bytes-of s (λ i. omega (arith, c .before .before .before .before .before .before .before .before .before .before .before .before .before .before .before .before .before .before .before .before .before .before .before .before .before .before .before .before .shared-slice-known .given i)) in
     let g = c .before .before .before .before .before .before .before .before .before .before .before .before .before .before .before .before .before .before .before .before .before .before .before .before .before .format .given in
     let came = sym (c .before .before .before .before .before .before .before .before .before .before .before .before .before .before .before .before .before .before .before .before .before .before .before .before .before .before .before .read-header .ensures) ∙ g .1 in
     let there = file-accepted s (g .0 .0) (g .0 .1 .0) (g .0 .1 .1 .0) (g .0 .1 .1 .1 .0) bytes came (c .before .before .before .before .before .before .before .before .before .before .before .before .before .before .before .before .before .before .before .before .before .before .before .before .before .before .before .before .before .before .pre .1) in
-    rw (file-bytes s (g .0 .0) (g .0 .1 .0) (g .0 .1 .1 .0) (g .0 .1 .1 .1 .0) bytes came there)
+    rw (file-bytes (mannerOf (a .short)) s (g .0 .0) (g .0 .1 .0) (g .0 .1 .1 .0) (g .0 .1 .1 .1 .0) bytes came there)
     (then (c .before .before .before .before .before .before .before .before .before .before .before .before .before .before .before .before .before .before .before .before .before .before .put-four .ensures) (then (c .before .before .before .before .before .before .before .before .before .before .before .before .before .before .before .before .before .before .put-four2 .ensures) (then (c .before .before .before .before .before .before .before .before .before .before .before .before .before .before .put-two .ensures) (then (c .before .before .before .before .before .before .before .before .before .before .put-two2 .ensures) (then (c .before .before .before .before .before .before .put-two3 .ensures) (c .before .before .put-tracks .ensures))))))
 
 pub put-file-spec : {M : Type 1} → statement M

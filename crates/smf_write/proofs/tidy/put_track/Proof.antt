@@ -1,5 +1,6 @@
 use Rattle.event.proofs.BytesLaws.{bytes-of, length-bigEndian}
 use Rattle.smf_write.proofs.FileLaws.{track-written}
+use Rattle.event_write.specs.Head.{mannerOf}
 use Rattle.smf.specs.Layout.{trackTag, layTrack}
 use Rattle.smf_write.proofs.TidyLaws.{Left, left-small}
 use native.Mathlib.Omega.{arith}
@@ -22,7 +23,7 @@ put-four-requires c κs = search needs
 cast-put-four : tie.Need-cast-put-four
 cast-put-four c = let a = c .before .before .before .before .before .before .before .before .before .before .before .args in
     let bytes = bytes-of (a .body .now) (λ i. omega (arith, c .before .before .before .before .before .before .before .before .before .shared-slice-known .given i)) in
-    omega (arith, c .before .before .before .before .before .before .before .put-events .ensures .place, left-small (a .body .now) 0 0 0 bytes (c .before .before .before .before .before .before .before .before .before .before .before .pre .1 .1), c .before .before .before .before .before .before .before .before .before .before .before .pre .1 .0)
+    omega (arith, c .before .before .before .before .before .before .before .put-events .ensures .place, left-small (mannerOf (a .short)) (a .body .now) 0 0 0 bytes (c .before .before .before .before .before .before .before .before .before .before .before .pre .1 .1), c .before .before .before .before .before .before .before .before .before .before .before .pre .1 .0)
 
 put-four-requires-2 : tie.Need-put-four-requires-2
 put-four-requires-2 c κs = omega (arith, c .before .before .before .put-four .ensures .place, length-bigEndian 4 trackTag, c .before .before .before .before .before .before .before .before .before .before .before .pre .0)
@@ -35,7 +36,8 @@ same-length c = search needs
 
 returns : tie.Need-returns
 unfolding layTrack
-returns c = track-written (Left (c .before .before .before .before .before .before .before .before .before .before .before .before .before .before .before .before .before .before .args .body .now) 0 0 0) (c .before .before .before .before .before .before .before .before .before .before .before .before .before .before .put-events .ensures) (c .before .before .before .before .before .before .before .before .before .before .put-four .ensures) (c .before .before .before .before .before .before .put-four2 .ensures) (c .before .before .put-events2 .ensures)
+returns c = let a = c .before .before .before .before .before .before .before .before .before .before .before .before .before .before .before .before .before .before .args in
+    track-written (Left (mannerOf (a .short)) (a .body .now) 0 0 0) (c .before .before .before .before .before .before .before .before .before .before .before .before .before .before .put-events .ensures) (c .before .before .before .before .before .before .before .before .before .before .put-four .ensures) (c .before .before .before .before .before .before .put-four2 .ensures) (c .before .before .put-events2 .ensures)
 
 pub put-track-spec : {M : Type 1} → statement M
 put-track-spec =

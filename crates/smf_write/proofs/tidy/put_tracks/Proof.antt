@@ -2,6 +2,7 @@ use Prim.Native.Nat.{suc, _-_, _≤_}
 use lib.ListN.{length, length-drop}
 use Rattle.event.specs.Outcome.{Readable}
 use Rattle.event.proofs.BytesLaws.{bytes-of, size-at}
+use Rattle.event_write.specs.Head.{mannerOf}
 use Rattle.event_write.proofs.WriteLaws.{Remains, all-remains}
 use Rattle.smf.proofs.ChunkLaws.{chunk-body}
 use Rattle.smf.proofs.ListLaws.{R}
@@ -14,10 +15,10 @@ use Rattle.smf_write.proofs.tidy.put_tracks.Statement.{statement}
 use Rattle.smf_write.proofs.tidy.put_tracks.Tie as tie
 
 abbrev Inv-loop : tie.InvT-loop
-Inv-loop out₀ from file count first next₀ at₀ left₀ out next at left = (at ≤ length file) × (length out ≡ length out₀) × Readable (R file left at) × Remains out₀ from (TracksLeft file count first) out next (TracksLeft file left at)
+Inv-loop out₀ from file count first short next₀ at₀ left₀ out next at left = (at ≤ length file) × (length out ≡ length out₀) × Readable (R file left at) × Remains out₀ from (TracksLeft (mannerOf short) file count first) out next (TracksLeft (mannerOf short) file left at)
 
 abbrev μ-loop : tie.MeasureT-loop
-μ-loop out₀ from file count first next₀ at₀ left₀ out next at left = left
+μ-loop out₀ from file count first short next₀ at₀ left₀ out next at left = left
 
 loop-holds : tie.Need-loop-holds Inv-loop μ-loop
 loop-holds c = let p = c .before .before .pre in (p .1 .0, refl, p .1 .1 .1, all-remains _ _ _)
@@ -89,9 +90,9 @@ put-track-requires c κs = let a = c .before .before .before .before .before .be
     let y = g .0 .1 .0 in
     let there = chunk-body s (l .at) x y bytes came in
     let n : l .left ≡ suc (l .left - 1) = omega (arith, c .before .before .before .before .before .before .loop-test .taken) in
-    let one = turn-track s (l .left) (l .left - 1) (l .at) x y n bytes came (l .inv .2) in
+    let one = turn-track (mannerOf (a .short)) s (l .left) (l .left - 1) (l .at) x y n bytes came (l .inv .2) in
     let size = size-at s x (y - x) (omega (arith, there .order, there .inside)) in
-    (omega (arith, l .inv .3 .place, tracks-small s (a .count) (a .first) bytes (c .before .before .before .before .before .before .before .before .before .before .pre .1 .1 .1), length-drop (a .first) s, c .before .before .before .before .before .before .before .before .before .before .pre .0, c .before .before .before .before .before .before .before .before .before .before .pre .1 .1 .0), (omega (arith, size, there .short), one .body))
+    (omega (arith, l .inv .3 .place, tracks-small (mannerOf (a .short)) s (a .count) (a .first) bytes (c .before .before .before .before .before .before .before .before .before .before .pre .1 .1 .1), length-drop (a .first) s, c .before .before .before .before .before .before .before .before .before .before .pre .0, c .before .before .before .before .before .before .before .before .before .before .pre .1 .1 .0), (omega (arith, size, there .inside, c .before .before .before .before .before .before .before .before .before .before .pre .1 .1 .0), one .body))
 
 sub-left : tie.Need-sub-left Inv-loop μ-loop
 sub-left c = omega arith
@@ -110,7 +111,7 @@ loop-again c = let a = c .before .before .before .before .before .before .before
     let y = g .0 .1 .0 in
     let there = chunk-body s (l .at) x y bytes came in
     let n : l .left ≡ suc (l .left - 1) = omega (arith, c .before .before .before .before .before .before .before .before .before .loop-test .taken) in
-    let one = turn-track s (l .left) (l .left - 1) (l .at) x y n bytes came (l .inv .2) in
+    let one = turn-track (mannerOf (a .short)) s (l .left) (l .left - 1) (l .at) x y n bytes came (l .inv .2) in
     (there .inside, c .before .before .put-track .kept .0 ∙ l .inv .1, one .rest, go-on _ _ _ (l .inv .3) (one .bytes) (c .before .before .put-track .ensures))
 
 same-length-2 : tie.Need-same-length-2 Inv-loop μ-loop
@@ -119,7 +120,7 @@ same-length-2 c = c .before .loop .inv .1
 returns-2 : tie.Need-returns-2 Inv-loop μ-loop
 returns-2 c = let a = c .before .before .before .before .args in
     let l = c .before .loop in
-    done _ (l .inv .3) (tracks-none (a .file .now) (l .left) (l .at) (c .loop-test .left))
+    done _ (l .inv .3) (tracks-none (mannerOf (a .short)) (a .file .now) (l .left) (l .at) (c .loop-test .left))
 
 pub put-tracks-spec : {M : Type 1} → statement M
 put-tracks-spec =

@@ -1,5 +1,6 @@
 use lib.ListN.{length}
 use Rattle.event.proofs.BytesLaws.{bytes-of}
+use Rattle.event_write.specs.Head.{mannerOf}
 use Rattle.event_write.proofs.WriteLaws.{after-measure, unmeasured, measured}
 use Rattle.smf_write.proofs.FileLaws.{tidy-refused, refused-leaves, tidied-file, tidied-readable, long-answer, room-answer, fine-answer, fine-leaves}
 use native.Mathlib.Omega.{arith}
@@ -41,6 +42,7 @@ same-length : tie.Need-same-length
 same-length c = search needs
 
 returns-2 : tie.Need-returns-2
+unfolding mannerOf
 returns-2 c = let s = c .before .before .before .before .before .before .before .before .before .before .args .file .now in
     let old = c .before .before .before .before .before .before .before .before .before .before .args .out .now in
     let v = c .before .before .before .before .before .before .before .check .result in
@@ -61,6 +63,7 @@ same-length-2 : tie.Need-same-length-2
 same-length-2 c = search needs
 
 returns-3 : tie.Need-returns-3
+unfolding mannerOf
 returns-3 c = let s = c .before .before .before .before .before .before .before .before .before .before .before .args .file .now in
     let old = c .before .before .before .before .before .before .before .before .before .before .before .args .out .now in
     let v = c .before .before .before .before .before .before .before .before .check .result in
@@ -90,6 +93,7 @@ same-length-3 : tie.Need-same-length-3
 same-length-3 c = search needs
 
 returns-4 : tie.Need-returns-4
+unfolding mannerOf
 returns-4 c = let s = c .before .before .before .before .before .before .before .before .before .before .before .before .before .before .before .args .file .now in
     let old = c .before .before .before .before .before .before .before .before .before .before .before .before .before .before .before .args .out .now in
     let v = c .before .before .before .before .before .before .before .before .before .before .before .before .check .result in
