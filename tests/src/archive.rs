@@ -6,10 +6,17 @@
 
 extern "C" {
     fn noferkash_check(file: *const u8, file_len: usize) -> u64;
+    fn noferkash_tidy(file: *const u8, file_len: usize, out: *mut u8, out_len: usize) -> u64;
 }
 
 /// The packed answer.
 pub fn check(file: &mut [u8]) -> u64 {
     // Safe: a slice's pointer is not null and valid for the slice's length.
     unsafe { noferkash_check(file.as_mut_ptr(), file.len()) }
+}
+
+/// The packed answer; on success `room` begins with the tidied file.
+pub fn tidy(file: &mut [u8], room: &mut [u8]) -> u64 {
+    // Safe as above; two slices lent to be written do not overlap.
+    unsafe { noferkash_tidy(file.as_mut_ptr(), file.len(), room.as_mut_ptr(), room.len()) }
 }

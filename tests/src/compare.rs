@@ -17,6 +17,42 @@ pub struct Operation {
     pub archive: fn(input: &mut [u8], manner: u32, room: &mut [u8]) -> u64,
 }
 
+/// What the two did alike.
+#[derive(Clone, Copy, Debug, PartialEq, Eq)]
+pub struct Met {
+    pub number: u8,
+    pub room: Room,
+}
+
+/// The lent room beside the length needed.
+#[derive(Clone, Copy, Debug, PartialEq, Eq, PartialOrd, Ord)]
+pub enum Room {
+    Exact,
+    OneShort,
+    Larger,
+    Zero,
+    /// Too small in another way than one byte short or zero.
+    Smaller,
+    /// Nothing was to be written, whatever the room.
+    Unused,
+}
+
+impl Room {
+    /// Those that an operation which writes must be tried in.
+    pub const DUE: [Room; 4] = [Room::Exact, Room::OneShort, Room::Larger, Room::Zero];
+
+    fn of(room: usize, needed: usize) -> Room {
+        match room {
+            _ if needed == 0 => Room::Unused,
+            0 => Room::Zero,
+            _ if room == needed => Room::Exact,
+            _ if room > needed => Room::Larger,
+            _ if room + 1 == needed => Room::OneShort,
+            _ => Room::Smaller,
+        }
+    }
+}
+
 /// How the two differ. Answers are packed, the second program's first.
 #[derive(Debug, PartialEq, Eq)]
 pub struct Difference {
@@ -28,13 +64,17 @@ pub struct Difference {
 }
 
 impl Operation {
-    /// The number that both answer; `seed` chooses manner and room.
-    pub fn compare(&self, seed: u64, input: &[u8]) -> Result<u8, Difference> {
+    /// Runs both on the same input; `seed` chooses manner and room.
+    pub fn compare(&self, seed: u64, input: &[u8]) -> Result<Met, Difference> {
         // Another stream than the input of the same seed.
         let rng = &mut Rng::new(seed ^ 1 << 63);
         let manner = manner(rng);
-        let needed = (self.second)(input, manner, &mut []).length;
-        let room = room(rng, needed);
+        let asked = (self.second)(input, manner, &mut []);
+        let room = match asked.number {
+            0 | 14 => room(rng, asked.length),
+            // Refused input gets room too, in which a writer in haste would show.
+            _ => room(rng, input.len().min(REFUSED_ROOM)),
+        };
 
         let mut given = Fenced::new(input, rng.index(8));
         let before = given.bytes.clone();
@@ -50,7 +90,8 @@ impl Operation {
         } else if made.bytes != due.bytes {
             "room or the bytes round it"
         } else {
-            return Ok(Answer::unpacked(second).number);
+            let number = Answer::unpacked(second).number;
+            return Ok(Met { number, room: Room::of(room, asked.length) });
         };
         Err(Difference { what, second, archive, manner, room })
     }
@@ -67,6 +108,9 @@ impl fmt::Display for Difference {
         write!(out, "    archive: {}", shown(self.archive))
     }
 }
+
+/// About as much room as refused input is given, to keep the run short.
+const REFUSED_ROOM: usize = 4096;
 
 /// What room and fences hold before the call.
 const FILL: u8 = 0xA5;
@@ -89,6 +133,14 @@ impl Fenced {
     fn inner(&mut self) -> &mut [u8] {
         &mut self.bytes[self.inner.clone()]
     }
+}
+
+#[test]
+fn rooms_have_their_kind() {
+    use Room::{Exact, Larger, OneShort, Smaller, Unused, Zero};
+    let kinds = [0, 1, 24, 25, 26, 27, 90].map(|room| Room::of(room, 26));
+    assert_eq!(kinds, [Zero, Smaller, Smaller, OneShort, Exact, Larger, Larger]);
+    assert_eq!([0, 9].map(|room| Room::of(room, 0)), [Unused; 2]);
 }
 
 #[test]

@@ -1,6 +1,6 @@
 //! The comparing itself: that it sees each fault which it is there for.
 
-use second::compare::{Difference, Operation};
+use second::compare::{Difference, Met, Operation, Room};
 use second::generate::{file_case, text_case};
 use second::operations::{text_to_file, tidy};
 
@@ -60,6 +60,14 @@ fn what_is_written_counts() {
         answer.packed()
     });
     seen(what, |file, _, room| tidy(file, &mut room.to_vec()).packed());
+    // A refusal seen only after some events were written.
+    seen(what, |file, _, room| {
+        let answer = tidy(file, room);
+        if (1..=13).contains(&answer.number) {
+            room.iter_mut().skip(64).for_each(|byte| *byte = 0);
+        }
+        answer.packed()
+    });
 }
 
 #[test]
@@ -69,9 +77,12 @@ fn manner_and_room_reach_both() {
         second: text_to_file,
         archive: |text, manner, room| text_to_file(text, manner, room).packed(),
     };
-    let numbers: Vec<u8> =
+    let met: Vec<Met> =
         (0..500).map(|seed| operation.compare(seed, &text_case(seed)).unwrap()).collect();
     for number in [0, 14, 30] {
-        assert!(numbers.contains(&number), "{number} never met");
+        assert!(met.iter().any(|met| met.number == number), "{number} never met");
+    }
+    for room in Room::DUE {
+        assert!(met.iter().any(|met| met.room == room), "{room:?} never met");
     }
 }

@@ -3,22 +3,11 @@
 
 mod common;
 
-use std::fs;
-
 use common::{tidied, to_file, to_text};
 use second::operations::{check, list_tracks};
-use second::outside::{corpus, outside_files as files};
+use second::outside::{expected, has_film_division, outside_files as files};
 use second::read_file::read_file;
 use second::refusal::Answer;
-
-fn expected(name: &str, ending: &str) -> Vec<u8> {
-    let path = corpus().join("expected").join(format!("{name}.{ending}"));
-    fs::read(&path).unwrap_or_else(|error| panic!("{}: {error}", path.display()))
-}
-
-fn has_film_division(name: &str) -> bool {
-    name.contains("smpte")
-}
 
 #[test]
 fn all_files_are_there() {

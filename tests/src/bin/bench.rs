@@ -13,15 +13,25 @@ const ROUNDS: usize = 10;
 fn main() {
     let mut file = benchmark_file();
     let bytes = file.len();
-    let mut ours = Vec::new();
-    let mut second = Vec::new();
-    // Interleaved, so that a busy moment of the machine meets both.
+    // The file is tidy, so it fits. Filled with other than 0: the pages are there.
+    let mut room = vec![0xA5; bytes];
+    let (mut check, mut second_check) = (Vec::new(), Vec::new());
+    let (mut tidy, mut second_tidy) = (Vec::new(), Vec::new());
+    // Interleaved, so that a busy moment of the machine meets all.
     for _ in 0..ROUNDS {
-        ours.push(timed(|| archive::check(black_box(&mut file))));
-        second.push(timed(|| operations::check(black_box(&file)).packed()));
+        check.push(timed(|| archive::check(black_box(&mut file))));
+        second_check.push(timed(|| operations::check(black_box(&file)).packed()));
+        tidy.push(timed(|| archive::tidy(black_box(&mut file), black_box(&mut room))));
+        assert!(room == file, "the benchmark file is tidy");
+        room.fill(0xA5);
+        second_tidy
+            .push(timed(|| operations::tidy(black_box(&file), black_box(&mut room)).packed()));
+        assert!(room == file, "the benchmark file is tidy");
+        room.fill(0xA5);
     }
     println!("{:<16}{:>12}{:>12}{:>8}", format!("{bytes} bytes"), "ours", "second", "ratio");
-    report("check", median(ours), median(second), bytes);
+    report("check", median(check), median(second_check), bytes);
+    report("tidy", median(tidy), median(second_tidy), bytes);
 }
 
 fn timed(run: impl FnOnce() -> u64) -> Duration {
