@@ -1,6 +1,6 @@
 # make          builds the proved library and runs it on an example file
 # make test     the gate: every test, then every proof from nothing
-# make bench    times checking a file of about 1 MiB beside the second program
+# make bench    times checking and tidying a file of about 1 MiB beside the second program
 ARCHIVE = target/staticlib/libnoferkash.a
 EXAMPLE = tests/corpus/gen-lilypond__own1.mid
 

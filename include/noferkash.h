@@ -74,16 +74,16 @@ enum noferkash_number {
  * Length is always 0. */
 uint64_t noferkash_check(const uint8_t *file, size_t file_len);
 
-/* Writes the file's piece again into `out`, in as few bytes as it can take: a
- * status byte left out wherever permitted, every variable-length number in the
- * fewest bytes. NOFERKASH_OK and the length written, at most file_len; bytes of
- * `out` past it stay. A tidied file tidies to itself.
+/* Writes the file's piece again into `out` in manner 1: a status byte left out
+ * wherever permitted, every variable-length number in the fewest bytes.
+ * NOFERKASH_OK and the length written; bytes of `out` past it stay. A tidied
+ * file tidies to itself.
  *
  * Refusals, in this order; each leaves all of `out` as it was:
  * - numbers 1 to 13, as noferkash_check answers them;
- * - NOFERKASH_WRITTEN_TOO_LONG, which no file meets, since none grows;
+ * - NOFERKASH_WRITTEN_TOO_LONG, should the tidied file pass 1,048,576 bytes;
  * - NOFERKASH_ROOM_TOO_SMALL when out_len is under the length needed, which the
- *   answer gives. Room of file_len bytes is always enough; out_len 0 asks. */
+ *   answer gives. So out_len 0 asks for it. */
 uint64_t noferkash_tidy(const uint8_t *file, size_t file_len, uint8_t *out, size_t out_len);
 
 #ifdef __cplusplus

@@ -1,12 +1,12 @@
 -- The two manners: each spelling is permitted where any is, so its file is a layout and reads back.
 use mathlib.Core.Path.{_≡_, refl}
-use Prim.Native.Nat.{ℕ, _*_, _≤_}
+use Prim.Native.Nat.{ℕ, _+_, _*_, _≤_}
 use mathlib.Core.List.{List, [], _∷_}
 use native.Mathlib.Omega.{arith}
 use lib.ListN.{length, length-append}
 use Rattle.event.specs.Event.{Event}
 use Rattle.event.specs.Frame.{frame, after, noStatus}
-use Rattle.event.specs.Spelling.{Spelling}
+use Rattle.event.specs.Spelling.{Spelling, Permitted}
 use Rattle.event.specs.Outcome.{ok}
 use Rattle.event.proofs.BytesLaws.{length-bigEndian}
 use Rattle.event.proofs.MannerLaws.{event-permitted, short-event, manner-event}
@@ -44,56 +44,44 @@ pub manner-read : (m : Manner) (p : Piece) (s : PieceSpelling) → LawfulPiece p
 unfolding fileOf
 manner-read m p s l h k = piece-read p (spelling m p) (record { lawful = l; permitted = manner-permitted m p s h; short = k })
 
--- ---- the short manner takes no more bytes than any permitted spelling
+-- ---- a manner's length beside any permitted spelling's: what holds of each event holds of all
 
-pub short-events : (prev force : ℕ) (es : List Event) (ss : List Spelling) → PermittedEvents prev force es ss
-    → length (layEvents prev es (spellEvents short prev force es)) ≤ length (layEvents prev es ss)
-unfolding PermittedEvents spellEvents layEvents
-short-events prev force [] ss p = omega arith
-short-events prev force (e ∷ es) [] p = absurd p
-short-events prev force (e ∷ es) (s ∷ ss) p =
-    let f : ℕ = after (frame (e .kind)) in
-    omega (
-      arith,
-      length-append (layEvent prev e (spellEvent short prev force e)) (layEvents (e .time) es (spellEvents short (e .time) f es)),
-      length-append (layEvent prev e s) (layEvents (e .time) es ss),
-      short-event prev force e s (p .0),
-      short-events (e .time) f es ss (p .1),
-    )
+module _ (m : Manner) (W : ℕ → ℕ → Type 0) (same : (n : ℕ) → W n n) (both : (a b c d : ℕ) → W a b → W c d → W (a + c) (b + d)) (one : (prev force : ℕ) (e : Event) (s : Spelling) → Permitted prev force e s → W (length (layEvent prev e (spellEvent m prev force e))) (length (layEvent prev e s))) where
+  events-within : (prev force : ℕ) (es : List Event) (ss : List Spelling) → PermittedEvents prev force es ss
+      → W (length (layEvents prev es (spellEvents m prev force es))) (length (layEvents prev es ss))
+  unfolding PermittedEvents spellEvents layEvents
+  events-within prev force [] ss p = same 0
+  events-within prev force (e ∷ es) [] p = absurd p
+  events-within prev force (e ∷ es) (s ∷ ss) p = simp length-append (both _ _ _ _ (one prev force e s (p .0)) (events-within (e .time) (after (frame (e .kind))) es ss (p .1)))
 
--- ---- and either manner at most twice as many
+  track-within : (es : List Event) (ss : List Spelling) → PermittedEvents 0 noStatus es ss → W (length (layTrack es (spellEvents m 0 noStatus es))) (length (layTrack es ss))
+  unfolding layTrack
+  track-within es ss p = simp (length-append, length-bigEndian) (both _ _ _ _ (same 4) (both _ _ _ _ (same 4) (events-within 0 noStatus es ss p)))
+
+  tracks-within : (ts : List (List Event)) (ss : List (List Spelling)) → PermittedTracks ts ss → W (length (layTracks ts (spellTracks m ts))) (length (layTracks ts ss))
+  unfolding PermittedTracks spellTracks layTracks
+  tracks-within [] ss p = same 0
+  tracks-within (t ∷ ts) [] p = absurd p
+  tracks-within (t ∷ ts) (s ∷ ss) p = simp length-append (both _ _ _ _ (track-within t s (p .0)) (tracks-within ts ss (p .1)))
+
+-- either manner takes at most twice the bytes
+twice : (a b c d : ℕ) → a ≤ 2 * b → c ≤ 2 * d → a + c ≤ 2 * (b + d)
+twice a b c d h g = omega arith
 
 pub manner-events : (m : Manner) (prev force : ℕ) (es : List Event) (ss : List Spelling) → PermittedEvents prev force es ss
     → length (layEvents prev es (spellEvents m prev force es)) ≤ 2 * length (layEvents prev es ss)
-unfolding PermittedEvents spellEvents layEvents
-manner-events m prev force [] ss p = omega arith
-manner-events m prev force (e ∷ es) [] p = absurd p
-manner-events m prev force (e ∷ es) (s ∷ ss) p =
-    let f : ℕ = after (frame (e .kind)) in
-    omega (
-      arith,
-      length-append (layEvent prev e (spellEvent m prev force e)) (layEvents (e .time) es (spellEvents m (e .time) f es)),
-      length-append (layEvent prev e s) (layEvents (e .time) es ss),
-      manner-event m prev force e s (p .0),
-      manner-events m (e .time) f es ss (p .1),
-    )
-
-manner-track : (m : Manner) (es : List Event) (ss : List Spelling) → PermittedEvents 0 noStatus es ss → length (layTrack es (spellEvents m 0 noStatus es)) ≤ 2 * length (layTrack es ss)
-unfolding layTrack
-manner-track m es ss p = let h = manner-events m 0 noStatus es ss p in simp (length-append, length-bigEndian) (omega arith)
+manner-events m = events-within m (λ a b. a ≤ 2 * b) (λ n. omega arith) twice (manner-event m)
 
 pub manner-tracks : (m : Manner) (ts : List (List Event)) (ss : List (List Spelling)) → PermittedTracks ts ss → length (layTracks ts (spellTracks m ts)) ≤ 2 * length (layTracks ts ss)
-unfolding PermittedTracks spellTracks layTracks
-manner-tracks m [] ss p = omega arith
-manner-tracks m (t ∷ ts) [] p = absurd p
-manner-tracks m (t ∷ ts) (s ∷ ss) p =
-    omega (
-      arith,
-      length-append (layTrack t (spellEvents m 0 noStatus t)) (layTracks ts (spellTracks m ts)),
-      length-append (layTrack t s) (layTracks ts ss),
-      manner-track m t s (p .0),
-      manner-tracks m ts ss (p .1),
-    )
+manner-tracks m = tracks-within m (λ a b. a ≤ 2 * b) (λ n. omega arith) twice (manner-event m)
+
+-- the short one no more
+sum : (a b c d : ℕ) → a ≤ b → c ≤ d → a + c ≤ b + d
+sum a b c d h g = omega arith
+
+short-events : (prev force : ℕ) (es : List Event) (ss : List Spelling) → PermittedEvents prev force es ss
+    → length (layEvents prev es (spellEvents short prev force es)) ≤ length (layEvents prev es ss)
+short-events = events-within short (λ a b. a ≤ b) (λ n. omega arith) sum short-event
 
 -- so the short manner's file of a piece that has a layout is a layout too
 short-short : (ts : List (List Event)) (ss : List (List Spelling)) → PermittedTracks ts ss → ShortTracks ts ss → ShortTracks ts (spellTracks short ts)
