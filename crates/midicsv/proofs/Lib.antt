@@ -1,0 +1,4 @@
+mod Example
+mod RowLaws
+mod LineBoundLaws
+mod BoundLaws

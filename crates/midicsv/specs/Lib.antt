@@ -1,0 +1,6 @@
+-- The definitions of texts: what a reader must believe.
+pub mod Field
+pub mod Table
+pub mod Record
+pub mod Text
+pub mod Example
