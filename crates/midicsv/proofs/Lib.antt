@@ -1,3 +1,4 @@
+pub mod FieldLaws
 mod Example
 mod RowLaws
 mod LineBoundLaws

@@ -12,14 +12,10 @@ use Rattle.event.proofs.ChoiceLaws.{by-test}
 use Rattle.midicsv.specs.Field.{digitsOf, decimal, inOctal, escape, escapeAll, quote, Field, show, further, lineOf}
 use Rattle.midicsv.specs.Table.{RecordName, spelled, Column, range, key, mode, freeType, Tail, none, oneText, sized, shape}
 use Rattle.midicsv.specs.Record.{Record, columnField, dataFields, tailFields, fieldsOf, recordLine}
+use Rattle.midicsv.proofs.FieldLaws.{digits-most, decimal-length, quote-length}
 use Rattle.midicsv.proofs.RowLaws.{InColumn, InColumns, InTail}
 
--- ---- numbers and texts
-
-digits-most : (j n : ℕ) → (1 ≤ length (digitsOf j n)) × (length (digitsOf j n) ≤ suc j)
-unfolding digitsOf pick
-digits-most zero n = omega arith
-digits-most (suc j) n = by-test (ltb n 10) (λ t. rw t (omega arith)) (λ t. let (p, q) = digits-most j (n / 10) in rw t (simp length-append (omega arith)))
+-- ---- numbers
 
 -- a smaller number has no more digits
 digits-mono : (j n m : ℕ) → n ≤ m → length (digitsOf j n) ≤ length (digitsOf j m)
@@ -37,10 +33,6 @@ decimal-mono : (n m : ℕ) → n ≤ m → length (decimal n) ≤ length (decima
 unfolding decimal
 decimal-mono n m h = digits-mono 9 n m h
 
-any-cost : (n : ℕ) → length (decimal n) ≤ 10
-unfolding decimal
-any-cost n = digits-most 9 n .1
-
 track-cost : (n : ℕ) → n ≤ 65535 → length (decimal n) ≤ 5
 unfolding decimal digitsOf pick
 track-cost n h = omega (arith, decimal-mono n 65535 h)
@@ -52,18 +44,6 @@ byte-cost n h = omega (arith, decimal-mono n 255 h)
 key-cost : (n : ℕ) → n ≤ 7 → length (decimal n) ≤ 1
 unfolding decimal digitsOf pick
 key-cost n h = omega (arith, decimal-mono n 7 h)
-
-escape-cost : (c : ℕ) → length (escape c) ≤ 4
-unfolding escape pick
-escape-cost c =
-    by-test (eqb c 34) (λ t. rw t (omega arith)) (λ n1.
-    by-test (eqb c 92) (λ t. rw (n1, t) (omega arith)) (λ n2.
-    by-test (inOctal c) (λ t. rw (n1, n2, t) (omega arith)) (λ n3. rw (n1, n2, n3) (omega arith))))
-
-escapes-cost : (d : List ℕ) → length (escapeAll d) ≤ 4 * length d
-unfolding escapeAll
-escapes-cost [] = omega arith
-escapes-cost (c ∷ d) = let h = escapes-cost d in simp length-append (omega (arith, escape-cost c))
 
 -- ---- fields
 
@@ -100,10 +80,10 @@ data-cost [] h = omega arith
 data-cost (b ∷ d) h = let q = data-cost d (h .1) in simp length-append (omega (arith, byte-cost b (omega (arith, h .0))))
 
 tail-cost : (t : Tail) (d : List ℕ) → InTail t d → length (further (tailFields t d)) ≤ tailCost t (length d)
-unfolding InTail further tailFields tailCost show quote
+unfolding InTail further tailFields tailCost show
 tail-cost none d h = omega arith
-tail-cost oneText d h = simp length-append (omega (arith, escapes-cost d))
-tail-cost sized d h = simp length-append (omega (arith, any-cost (length d), data-cost d h))
+tail-cost oneText d h = simp length-append (omega (arith, quote-length d))
+tail-cost sized d h = simp length-append (omega (arith, decimal-length (length d), data-cost d h))
 
 one-cost : (f : Field) (fs : List Field) (a b : ℕ) → length (show f) ≤ a → length (further fs) ≤ b → length (further (f ∷ fs)) ≤ 2 + a + b
 unfolding further
@@ -129,4 +109,4 @@ pub record-cost : (r : Record) → r .track ≤ 65535 → InColumns (shape (r .n
 unfolding recordLine lineOf show further cost
 record-cost r h cs t =
     let q = columns-cost (shape (r .name) .columns) (shape (r .name) .tail) (r .values .columns) (r .values .body) cs t in
-    simp length-append (omega (arith, track-cost (r .track) h, any-cost (r .time)))
+    simp length-append (omega (arith, track-cost (r .track) h, decimal-length (r .time)))

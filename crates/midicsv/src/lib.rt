@@ -1,1 +1,2 @@
-// The text side: the definitions of texts stand in specs/; the conversions come next.
+// The text side: fields of records written.
+pub mod field; // field.rt: decimals and quoted texts
