@@ -11,7 +11,8 @@ use lib.Dec.{leb, ltb, eqb}
 use borrow.Author.Tests.{lt-ltb, le-ltb, le-leb, lt-leb, ne-eqb}
 use Rattle.event.specs.Choice.{pick}
 use Rattle.event.proofs.ChoiceLaws.{by-test}
-use Rattle.midicsv.specs.Field.{digitsOf, decimal, inOctal, escape, escapeAll, quote}
+use Rattle.midicsv.specs.Field.{digitsOf, decimal, inOctal, escape, escapeAll, quote, num, show, joined, further}
+use Rattle.midicsv.specs.Record.{dataFields}
 
 -- ---- decimals
 
@@ -110,3 +111,24 @@ text-more d i h = rw (add-one, drop-cons d i 0 h) (one-more (getD d i 0) (drop (
 pub text-end : (d : List ℕ) (i : ℕ) → length d ≤ i → TextLeft d i ≡ 34 ∷ []
 unfolding escapeAll
 text-end d i h = rw (drop-of-length-le d h) refl
+
+-- ---- a turn of the loop over data bytes
+
+abbrev pub DataLeft : List ℕ → ℕ → List ℕ
+DataLeft d i = further (dataFields (drop i d))
+
+data-one : (b : ℕ) (d : List ℕ) → further (dataFields (b ∷ d)) ≡ joined (num b) ++ further (dataFields d)
+unfolding further dataFields
+data-one b d = refl
+
+pub data-more : (d : List ℕ) (i : ℕ) → i < length d → DataLeft d i ≡ joined (num (getD d i 0)) ++ DataLeft d (i + 1)
+data-more d i h = rw (add-one, drop-cons d i 0 h) (data-one (getD d i 0) (drop (suc i) d))
+
+pub data-end : (d : List ℕ) (i : ℕ) → length d ≤ i → DataLeft d i ≡ []
+unfolding further dataFields
+data-end d i h = rw (drop-of-length-le d h) refl
+
+pub data-length : (d : List ℕ) → length (further (dataFields d)) ≤ 12 * length d
+unfolding further dataFields show
+data-length [] = omega arith
+data-length (b ∷ d) = let h = data-length d in simp length-append (omega (arith, decimal-length b))

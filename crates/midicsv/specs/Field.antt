@@ -52,9 +52,12 @@ show (name s) = s
 show (quoted d) = quote d
 
 -- "fields joined by comma and one space"
+abbrev pub joined : Field → List ℕ
+joined f = 44 ∷ 32 ∷ show f
+
 unfoldable pub further : List Field → List ℕ
 further [] = []
-further (f ∷ fs) = 44 ∷ 32 ∷ (show f ++ further fs)
+further (f ∷ fs) = joined f ++ further fs
 
 unfoldable pub lineOf : List Field → List ℕ
 lineOf [] = []

@@ -1,9 +1,12 @@
 // Fields of a record written. Each writes only where there is room and answers the place after.
 ghost use mathlib.Core.Path.{_≡_};
+ghost use mathlib.Core.List.{[], _∷_};
 ghost use Prim.Native.Nat.{_<_, _^_};
 ghost use lib.ListN.{length};
 ghost use Rattle.event_write.specs.Written.{Written};
-ghost use Rattle.midicsv.specs.Field.{decimal, inOctal, escape, quote};
+ghost use Rattle.midicsv.specs.Field.{decimal, inOctal, escape, quote, num, quoted, joined, further};
+ghost use Rattle.midicsv.specs.Table.{sized};
+ghost use Rattle.midicsv.specs.Record.{dataFields, tailFields};
 use event_write::bytes::put_byte;
 
 // A number in decimal: the digits before the last, then the last.
@@ -65,4 +68,54 @@ pub fn put_text(out: &mut [u8], at: usize, text: &[u8]) -> usize
         i = i + 1;
     }
     put_byte(out, next, 34)
+}
+
+// The comma and the space between two fields.
+fn put_comma(out: &mut [u8], at: usize) -> usize
+    requires { ⌜ at < 2 ^ 47 ⌝ }
+    ensures { λ r. ⌜ Written (now (out .entry)) at (44 ∷ 32 ∷ []) (now (out .exit)) r ⌝ }
+{
+    let a = put_byte(out, at, 44);
+    put_byte(out, a, 32)
+}
+
+// A further number of a record.
+pub fn put_number_field(out: &mut [u8], at: usize, n: u32) -> usize
+    requires { ⌜ at < 2 ^ 46 ⌝ }
+    ensures { λ r. ⌜ Written (now (out .entry)) at (joined (num n)) (now (out .exit)) r ⌝ }
+{
+    let a = put_comma(out, at);
+    put_decimal(out, a, n)
+}
+
+// A further text of a record.
+pub fn put_text_field(out: &mut [u8], at: usize, text: &[u8]) -> usize
+    requires { ⌜ at < 2 ^ 43 ⌝ ∗ ⌜ length (now text) < 2 ^ 42 ⌝ }
+    ensures { λ r. ⌜ Written (now (out .entry)) at (joined (quoted (now (text .entry)))) (now (out .exit)) r ⌝ }
+{
+    let a = put_comma(out, at);
+    put_text(out, a, text)
+}
+
+// Data bytes, a field each.
+fn put_data(out: &mut [u8], at: usize, body: &[u8]) -> usize
+    requires { ⌜ at < 2 ^ 44 ⌝ ∗ ⌜ length (now body) < 2 ^ 32 ⌝ }
+    ensures { λ r. ⌜ Written (now (out .entry)) at (further (dataFields (now (body .entry)))) (now (out .exit)) r ⌝ }
+{
+    let mut next = at;
+    let mut i = 0;
+    while i < body.len() {
+        next = put_number_field(out, next, body[i] as u32);
+        i = i + 1;
+    }
+    next
+}
+
+// Length and data.
+pub fn put_sized(out: &mut [u8], at: usize, body: &[u8]) -> usize
+    requires { ⌜ at < 2 ^ 43 ⌝ ∗ ⌜ length (now body) < 2 ^ 32 ⌝ }
+    ensures { λ r. ⌜ Written (now (out .entry)) at (further (tailFields sized (now (body .entry)))) (now (out .exit)) r ⌝ }
+{
+    let a = put_number_field(out, at, body.len() as u32);
+    put_data(out, a, body)
 }
