@@ -1,4 +1,5 @@
 pub mod FieldLaws
+pub mod NameLaws
 mod Example
 mod RowLaws
 mod LineBoundLaws
