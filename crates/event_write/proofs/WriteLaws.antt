@@ -1,6 +1,6 @@
 -- What is written in a row is written as one.
-use mathlib.Core.Path.{_≡_, refl, ap, subst, _∙_}
-use mathlib.Core.List.{List, [], _∷_, _++_}
+use mathlib.Core.Path.{_≡_, refl, sym, ap, subst, _∙_}
+use mathlib.Core.List.{List, [], _∷_, _++_, append-nil}
 use Prim.Native.Nat.{ℕ, suc, _+_}
 use native.Mathlib.Nat.{add-zero}
 use native.Mathlib.Omega.{arith}
@@ -40,6 +40,18 @@ less-remains {old} {whole} {mid} {new} {item} {rest} {at} {m} {next} a b = recor
 
 pub none-remains : {old whole new : List ℕ} {at next : ℕ} → Remains old at whole new next [] → Written old at whole new next
 none-remains {old} {whole} {new} {at} {next} a = record { contents = a .contents; place = omega (arith, a .place) }
+
+-- the same where what is left is known to begin with the item, to be the item, to be nothing
+pub go-on : {old whole mid new : List ℕ} {from m next : ℕ} (left item rest : List ℕ) → Remains old from whole mid m left → left ≡ item ++ rest → Written mid m item new next
+    → Remains old from whole new next rest
+go-on {old} {whole} {mid} {new} {from} {m} {next} left item rest r e w = less-remains (subst (λ z. Remains old from whole mid m z) e r) w
+
+pub finish : {old whole mid new : List ℕ} {from m next : ℕ} (left item : List ℕ) → Remains old from whole mid m left → left ≡ item → Written mid m item new next
+    → Written old from whole new next
+finish left item r e w = none-remains (go-on left item [] r (e ∙ sym (append-nil item)) w)
+
+pub done : {old whole new : List ℕ} {from next : ℕ} (left : List ℕ) → Remains old from whole new next left → left ≡ [] → Written old from whole new next
+done {old} {whole} {new} {from} {next} left r e = none-remains (subst (λ z. Remains old from whole new next z) e r)
 
 -- ---- a writer that was lent no room measures
 

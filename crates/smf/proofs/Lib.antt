@@ -11,3 +11,5 @@ pub mod ChunkLaws
 pub mod VerdictLaws
 pub mod PieceReadLaws
 pub mod ListLaws
+pub mod TurnLaws
+pub mod AcceptedLaws

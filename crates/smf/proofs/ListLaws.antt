@@ -69,7 +69,7 @@ pub list-next : (s : List ℕ) (left n at : ℕ) (t : Time) (c q : ℕ) → left
     → Readable (R s left at) → Listed s left n at t c q
 list-next s left n at t c q e bs h g w = rw e (list-one s n at t c q bs h g (rw e at w))
 
-none-left : (s : List ℕ) (left at : ℕ) → left ≤ 0 → valueOr [] (R s left at) ≡ []
+pub none-left : (s : List ℕ) (left at : ℕ) → left ≤ 0 → valueOr [] (R s left at) ≡ []
 unfolding readTracks valueOr
 none-left s zero at h = refl
 none-left s (suc n) at h = absurd (omega arith)

@@ -1,14 +1,14 @@
 use Rattle.event.specs.Step.{kindFrom}
 use Rattle.event.specs.declared.Delta.{Delta}
 use Rattle.event_write.specs.Head.{mannerOf, headBytes, dataOf}
-use Rattle.smf_write.proofs.TidyLaws.{go-on, finish}
-use Prim.Native.Nat.{ℕ, _+_, _-_, _≤_}
+use Prim.Native.Nat.{ℕ, _-_, _≤_}
 use mathlib.Core.List.{List, _++_}
 use lib.ListN.{length}
 use Rattle.event.specs.Outcome.{Readable}
 use Rattle.event.proofs.BytesLaws.{bytes-of}
-use Rattle.event_write.proofs.WriteLaws.{Remains, all-remains}
-use Rattle.smf_write.proofs.TidyLaws.{A, Left, turn-stop, turn-place, turn-next, turn-end, left-small}
+use Rattle.event_write.proofs.WriteLaws.{Remains, all-remains, go-on, finish}
+use Rattle.smf.proofs.TurnLaws.{A, turn-stop, event-came, turn-place, turn-next, turn-end}
+use Rattle.smf_write.proofs.TidyLaws.{Left, next-left, end-left, left-small}
 use native.Mathlib.Omega.{arith}
 use mathlib.Core.Path.{_≡_, refl, sym, _∙_, ap}
 use borrow.Author.Needs.{needs}
@@ -72,7 +72,9 @@ returns-2 c = let a = c .before .before .before .before .before .before .before 
     let st = g .0 .1 .1 .1 .0 in
     let delta = ap (λ (d : Delta). d .0) (c .before .before .before .before .before .before .step .ensures) in
     let item : ℕ → List ℕ = λ z. headBytes (mannerOf (a .short)) (l .status) z k ++ dataOf (kindFrom s k) in
-    finish _ _ (l .inv .3) (turn-end (mannerOf (a .short)) s (l .at) (l .time .0) (l .status) bytes (l .inv .0) (l .inv .2) u k q st came (sym (c .before .is-end .ensures) ∙ c .if1 .taken) ∙ ap item (sym delta)) (c .before .before .before .before .put-event .ensures)
+    let e = event-came s (l .at) (l .time .0) (l .status) u k q st bytes (l .inv .0) came in
+    let all = turn-end s (l .at) (l .time .0) (l .status) u k q st bytes (l .inv .0) came (l .inv .2) (sym (c .before .is-end .ensures) ∙ c .if1 .taken) in
+    finish _ _ (l .inv .3) (end-left (mannerOf (a .short)) s (l .at) (l .time .0) (l .status) u k q st e all ∙ ap item (sym delta)) (c .before .before .before .before .put-event .ensures)
 
 loop-less : tie.Need-loop-less Inv-loop μ-loop
 loop-less c = let a = c .before .before .before .before .before .before .before .before .before .before .before .before .before .before .args in
@@ -85,7 +87,7 @@ loop-less c = let a = c .before .before .before .before .before .before .before 
     let k = g .0 .1 .0 in
     let q = g .0 .1 .1 .0 in
     let st = g .0 .1 .1 .1 .0 in
-    omega (arith, turn-place (mannerOf (a .short)) s (l .at) (l .time .0) (l .status) bytes (l .inv .0) (l .inv .2) u k q st came)
+    omega (arith, turn-place s (l .at) (l .time .0) (l .status) u k q st bytes (l .inv .0) came)
 
 loop-again : tie.Need-loop-again Inv-loop μ-loop
 loop-again c = let a = c .before .before .before .before .before .before .before .before .before .before .before .before .before .before .args in
@@ -100,9 +102,10 @@ loop-again c = let a = c .before .before .before .before .before .before .before
     let st = g .0 .1 .1 .1 .0 in
     let delta = ap (λ (d : Delta). d .0) (c .before .before .before .before .before .before .step .ensures) in
     let item : ℕ → List ℕ = λ z. headBytes (mannerOf (a .short)) (l .status) z k ++ dataOf (kindFrom s k) in
-    let p = turn-place (mannerOf (a .short)) s (l .at) (l .time .0) (l .status) bytes (l .inv .0) (l .inv .2) u k q st came in
-    let n = turn-next (mannerOf (a .short)) s (l .at) (l .time .0) (l .status) bytes (l .inv .0) (l .inv .2) u k q st came (sym (c .before .is-end .ensures) ∙ c .if1 .left) in
-    (p .1, c .before .before .before .before .put-event .kept .0 ∙ l .inv .1, n .0, go-on _ _ _ (l .inv .3) (n .1 ∙ ap (λ z. item z ++ Left (mannerOf (a .short)) s q (u .0) st) (sym delta)) (c .before .before .before .before .put-event .ensures))
+    let e = event-came s (l .at) (l .time .0) (l .status) u k q st bytes (l .inv .0) came in
+    let p = turn-place s (l .at) (l .time .0) (l .status) u k q st bytes (l .inv .0) came in
+    let n = turn-next s (l .at) (l .time .0) (l .status) u k q st bytes (l .inv .0) came (l .inv .2) (sym (c .before .is-end .ensures) ∙ c .if1 .left) in
+    (p .1, c .before .before .before .before .put-event .kept .0 ∙ l .inv .1, n .0, go-on _ _ _ (l .inv .3) (next-left (mannerOf (a .short)) s (l .at) (l .time .0) (l .status) u k q st e (n .1) ∙ ap (λ z. item z ++ Left (mannerOf (a .short)) s q (u .0) st) (sym delta)) (c .before .before .before .before .put-event .ensures))
 
 pub put-events-spec : {M : Type 1} → statement M
 put-events-spec =

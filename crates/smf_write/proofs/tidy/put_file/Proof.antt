@@ -4,7 +4,8 @@ use Rattle.event_write.specs.Head.{mannerOf}
 use Rattle.smf.specs.Layout.{headerTag, layHeader, layDivision}
 use Rattle.smf.proofs.VerdictLaws.{head-at}
 use Rattle.smf.proofs.ListLaws.{accepted-readable}
-use Rattle.smf_write.proofs.FileLaws.{header-there, file-accepted, file-bytes}
+use Rattle.smf.proofs.AcceptedLaws.{header-there, file-accepted}
+use Rattle.smf_write.proofs.FileLaws.{file-bytes}
 use native.Mathlib.Omega.{arith}
 use mathlib.Core.Path.{sym, _∙_}
 use borrow.Author.Needs.{needs}

@@ -3,11 +3,11 @@ use lib.ListN.{length, length-drop}
 use Rattle.event.specs.Outcome.{Readable}
 use Rattle.event.proofs.BytesLaws.{bytes-of, size-at}
 use Rattle.event_write.specs.Head.{mannerOf}
-use Rattle.event_write.proofs.WriteLaws.{Remains, all-remains}
+use Rattle.event_write.proofs.WriteLaws.{Remains, all-remains, go-on, done}
 use Rattle.smf.proofs.ChunkLaws.{chunk-body}
 use Rattle.smf.proofs.ListLaws.{R}
-use Rattle.smf_write.proofs.TidyLaws.{go-on, done}
-use Rattle.smf_write.proofs.FileLaws.{TracksLeft, tracks-stop, tracks-none, turn-track, tracks-small}
+use Rattle.smf.proofs.TurnLaws.{tracks-stop, turn-track}
+use Rattle.smf_write.proofs.FileLaws.{TracksLeft, track-left, no-tracks-left, tracks-small}
 use native.Mathlib.Omega.{arith}
 use mathlib.Core.Path.{_≡_, refl, sym, _∙_}
 use borrow.Author.Needs.{needs}
@@ -90,7 +90,7 @@ put-track-requires c κs = let a = c .before .before .before .before .before .be
     let y = g .0 .1 .0 in
     let there = chunk-body s (l .at) x y bytes came in
     let n : l .left ≡ suc (l .left - 1) = omega (arith, c .before .before .before .before .before .before .loop-test .taken) in
-    let one = turn-track (mannerOf (a .short)) s (l .left) (l .left - 1) (l .at) x y n bytes came (l .inv .2) in
+    let one = turn-track s (l .left) (l .left - 1) (l .at) x y n bytes came (l .inv .2) in
     let size = size-at s x (y - x) (omega (arith, there .order, there .inside)) in
     (omega (arith, l .inv .3 .place, tracks-small (mannerOf (a .short)) s (a .count) (a .first) bytes (c .before .before .before .before .before .before .before .before .before .before .pre .1 .1 .1), length-drop (a .first) s, c .before .before .before .before .before .before .before .before .before .before .pre .0, c .before .before .before .before .before .before .before .before .before .before .pre .1 .1 .0), (omega (arith, size, there .inside, c .before .before .before .before .before .before .before .before .before .before .pre .1 .1 .0), one .body))
 
@@ -111,8 +111,8 @@ loop-again c = let a = c .before .before .before .before .before .before .before
     let y = g .0 .1 .0 in
     let there = chunk-body s (l .at) x y bytes came in
     let n : l .left ≡ suc (l .left - 1) = omega (arith, c .before .before .before .before .before .before .before .before .before .loop-test .taken) in
-    let one = turn-track (mannerOf (a .short)) s (l .left) (l .left - 1) (l .at) x y n bytes came (l .inv .2) in
-    (there .inside, c .before .before .put-track .kept .0 ∙ l .inv .1, one .rest, go-on _ _ _ (l .inv .3) (one .bytes) (c .before .before .put-track .ensures))
+    let one = turn-track s (l .left) (l .left - 1) (l .at) x y n bytes came (l .inv .2) in
+    (there .inside, c .before .before .put-track .kept .0 ∙ l .inv .1, one .rest, go-on _ _ _ (l .inv .3) (track-left (mannerOf (a .short)) s (l .left) (l .left - 1) (l .at) x y one) (c .before .before .put-track .ensures))
 
 same-length-2 : tie.Need-same-length-2 Inv-loop μ-loop
 same-length-2 c = c .before .loop .inv .1
@@ -120,7 +120,7 @@ same-length-2 c = c .before .loop .inv .1
 returns-2 : tie.Need-returns-2 Inv-loop μ-loop
 returns-2 c = let a = c .before .before .before .before .args in
     let l = c .before .loop in
-    done _ (l .inv .3) (tracks-none (mannerOf (a .short)) (a .file .now) (l .left) (l .at) (c .loop-test .left))
+    done _ (l .inv .3) (no-tracks-left (mannerOf (a .short)) (a .file .now) (l .left) (l .at) (c .loop-test .left))
 
 pub put-tracks-spec : {M : Type 1} → statement M
 put-tracks-spec =

@@ -2,7 +2,8 @@ use lib.ListN.{length}
 use Rattle.event.proofs.BytesLaws.{bytes-of}
 use Rattle.event_write.specs.Head.{mannerOf}
 use Rattle.event_write.proofs.WriteLaws.{after-measure, unmeasured, measured}
-use Rattle.smf_write.proofs.FileLaws.{tidy-refused, refused-leaves, tidied-file, tidied-readable, long-answer, room-answer, fine-answer, fine-leaves}
+use Rattle.smf.proofs.AcceptedLaws.{accepted-file, file-readable}
+use Rattle.smf_write.proofs.FileLaws.{tidy-refused, refused-leaves, long-answer, room-answer, fine-answer, fine-leaves}
 use native.Mathlib.Omega.{arith}
 use mathlib.Core.Path.{_∙_, ap}
 use borrow.Author.Needs.{needs}
@@ -32,8 +33,8 @@ put-file-requires c κs = let s = c .before .before .before .before .before .arg
     let v = c .before .before .check .result in
     let judged = c .before .before .check .ensures .0 in
     let bytes = bytes-of s (λ i. omega (arith, c .before .before .before .before .shared-slice-known .given i)) in
-    let there = tidied-file s v bytes judged (c .before .if1 .left) in
-    (there .short, tidied-readable s there)
+    let there = accepted-file s v bytes judged (c .before .if1 .left) in
+    (there .short, file-readable s there)
 
 refusal-requires : tie.Need-refusal-requires
 refusal-requires c κs = search needs
@@ -48,7 +49,7 @@ returns-2 c = let s = c .before .before .before .before .before .before .before 
     let v = c .before .before .before .before .before .before .before .check .result in
     let judged = c .before .before .before .before .before .before .before .check .ensures .0 in
     let bytes = bytes-of s (λ i. omega (arith, c .before .before .before .before .before .before .before .before .before .shared-slice-known .given i)) in
-    let there = tidied-file s v bytes judged (c .before .before .before .before .before .before .if1 .left) in
+    let there = accepted-file s v bytes judged (c .before .before .before .before .before .before .if1 .left) in
     let m = c .before .before .before .before .put-file .ensures in
     let n = c .before .before .before .before .put-file .result in
     let size = measured m in
@@ -69,7 +70,7 @@ returns-3 c = let s = c .before .before .before .before .before .before .before 
     let v = c .before .before .before .before .before .before .before .before .check .result in
     let judged = c .before .before .before .before .before .before .before .before .check .ensures .0 in
     let bytes = bytes-of s (λ i. omega (arith, c .before .before .before .before .before .before .before .before .before .before .shared-slice-known .given i)) in
-    let there = tidied-file s v bytes judged (c .before .before .before .before .before .before .before .if1 .left) in
+    let there = accepted-file s v bytes judged (c .before .before .before .before .before .before .before .if1 .left) in
     let m = c .before .before .before .before .before .put-file .ensures in
     let n = c .before .before .before .before .before .put-file .result in
     let size = measured m in
@@ -83,8 +84,8 @@ put-file-requires-2 c κs = let s = c .before .before .before .before .before .b
     let v = c .before .before .before .before .before .before .before .before .check .result in
     let judged = c .before .before .before .before .before .before .before .before .check .ensures .0 in
     let bytes = bytes-of s (λ i. omega (arith, c .before .before .before .before .before .before .before .before .before .before .shared-slice-known .given i)) in
-    let there = tidied-file s v bytes judged (c .before .before .before .before .before .before .before .if1 .left) in
-    (there .short, tidied-readable s there)
+    let there = accepted-file s v bytes judged (c .before .before .before .before .before .before .before .if1 .left) in
+    (there .short, file-readable s there)
 
 success-requires : tie.Need-success-requires
 success-requires c κs = search needs
@@ -99,7 +100,7 @@ returns-4 c = let s = c .before .before .before .before .before .before .before 
     let v = c .before .before .before .before .before .before .before .before .before .before .before .before .check .result in
     let judged = c .before .before .before .before .before .before .before .before .before .before .before .before .check .ensures .0 in
     let bytes = bytes-of s (λ i. omega (arith, c .before .before .before .before .before .before .before .before .before .before .before .before .before .before .shared-slice-known .given i)) in
-    let there = tidied-file s v bytes judged (c .before .before .before .before .before .before .before .before .before .before .before .if1 .left) in
+    let there = accepted-file s v bytes judged (c .before .before .before .before .before .before .before .before .before .before .before .if1 .left) in
     let m = c .before .before .before .before .before .before .before .before .before .put-file .ensures in
     let n = c .before .before .before .before .before .before .before .before .before .put-file .result in
     let size = measured m in
