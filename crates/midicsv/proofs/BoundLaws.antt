@@ -1,8 +1,8 @@
 -- "The text of an accepted file of n bytes has at most 25·n bytes."
-use mathlib.Core.Path.{_≡_, refl}
+use mathlib.Core.Path.{_≡_, refl, sym, ap, _∙_}
 use Prim.Native.Nat.{ℕ, zero, suc, _+_, _-_, _*_, _≤_}
 use mathlib.Core.Bool.{Bool, true, false}
-use mathlib.Core.List.{List, [], _∷_, _++_}
+use mathlib.Core.List.{List, [], _∷_, _++_, append-assoc}
 use native.Mathlib.Omega.{arith}
 use lib.ListN.{length, length-append}
 use Rattle.event.specs.Choice.{pick}
@@ -93,10 +93,14 @@ event-bound track prev force e s h f p =
 
 -- ---- a track, the tracks, a piece
 
-texts-length : (rs qs : List Record) → length (recordsText (rs ++ qs)) ≡ length (recordsText rs) + length (recordsText qs)
+pub texts-append : (rs qs : List Record) → recordsText (rs ++ qs) ≡ recordsText rs ++ recordsText qs
 unfolding recordsText
-texts-length [] qs = omega arith
-texts-length (r ∷ rs) qs = let e = texts-length rs qs in simp length-append (omega arith)
+texts-append [] qs = refl
+texts-append (r ∷ rs) qs =
+    ap (λ z. recordLine r ++ (10 ∷ z)) (texts-append rs qs) ∙ sym (append-assoc (recordLine r) (10 ∷ recordsText rs) (recordsText qs))
+
+texts-length : (rs qs : List Record) → length (recordsText (rs ++ qs)) ≡ length (recordsText rs) + length (recordsText qs)
+texts-length rs qs = ap length (texts-append rs qs) ∙ length-append (recordsText rs) (recordsText qs)
 
 last-length : (r : Record) → length (recordsText (r ∷ [])) ≡ length (recordLine r) + 1
 unfolding recordsText
@@ -109,7 +113,7 @@ unfolding Ends eventRecords recordsText
 rest-bound true track prev es ss P n f = rw n (omega arith)
 rest-bound false track prev es ss P n f = f n
 
-events-bound : (track prev force : ℕ) (es : List Event) (ss : List Spelling) → track ≤ 65535 → LawfulEvents prev es → PermittedEvents prev force es ss
+pub events-bound : (track prev force : ℕ) (es : List Event) (ss : List Spelling) → track ≤ 65535 → LawfulEvents prev es → PermittedEvents prev force es ss
     → length (recordsText (eventRecords track es)) ≤ 25 * length (layEvents prev es ss)
 unfolding LawfulEvents PermittedEvents eventRecords recordsText layEvents
 events-bound track prev force [] ss h l p = absurd l
@@ -127,11 +131,11 @@ end-bound : length (recordLine (mark end-of-file 0)) + 1 ≤ 100
 unfolding cost spelled shape columnsCost tailCost InColumns InTail
 end-bound = omega (arith, record-cost (mark end-of-file 0) (omega arith) tt refl)
 
-header-bound : (p : Piece) → LawfulPiece p → length (recordLine (headerRecord p)) + 1 ≤ 100
+pub header-bound : (p : Piece) → LawfulPiece p → length (recordLine (headerRecord p)) + 1 ≤ 100
 unfolding cost spelled shape columnsCost columnCost tailCost decimal digitsOf pick headerRecord InColumns InColumn InTail LawfulDivision
 header-bound p l = omega (arith, record-cost (headerRecord p) (omega arith) (omega (arith, l .format, l .some, l .few, l .division)) refl)
 
-tracks-bound : (n : ℕ) (ts : List (List Event)) (ss : List (List Spelling)) → n + length ts ≤ 65536 → LawfulTracks ts → PermittedTracks ts ss
+pub tracks-bound : (n : ℕ) (ts : List (List Event)) (ss : List (List Spelling)) → n + length ts ≤ 65536 → LawfulTracks ts → PermittedTracks ts ss
     → length (recordsText (trackRecords n ts)) ≤ 25 * length (layTracks ts ss)
 unfolding LawfulTracks PermittedTracks trackRecords recordsText layTracks layTrack
 tracks-bound n [] ss h l p = omega arith

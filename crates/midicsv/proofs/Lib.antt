@@ -3,4 +3,4 @@ pub mod NameLaws
 mod Example
 mod RowLaws
 mod LineBoundLaws
-mod BoundLaws
+pub mod BoundLaws

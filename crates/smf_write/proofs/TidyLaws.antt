@@ -84,4 +84,3 @@ step-before t u e =
     by-test (leb u t)
     (λ q. let z : After (record { 0 = t - u }) ≡ Before = rw q at e in let w : _≡_ {A = ℕ} 0 1 = cc in absurd (omega arith))
     (λ q. let h = leb-false u t q in let z : 0 ≡ t - u = omega arith in ap (λ n. record { 0 = n }) z)
-

@@ -1,0 +1,62 @@
+-- The answers of file to text.
+use mathlib.Core.Path.{_≡_, refl, ap, _∙_}
+use Prim.Native.Nat.{ℕ, _+_, _*_, _≤_, _<_}
+use mathlib.Core.List.{List, _++_}
+use native.Mathlib.Omega.{arith}
+use lib.ListN.{length, drop}
+use lib.Seq.{sets, sets-eq}
+use borrow.Author.Tests.{le-leb, lt-leb}
+use Rattle.event.specs.Bytes.{Bytes}
+use Rattle.event.specs.Choice.{pick}
+use Rattle.event.specs.Outcome.{Outcome, ok, refused}
+use Rattle.event.proofs.OutcomeLaws.{check-ok}
+use Rattle.smf.specs.Piece.{Piece}
+use Rattle.smf.specs.Reader.{readFile}
+use Rattle.smf.specs.PieceRead.{pieceRead}
+use Rattle.smf.specs.Answer.{success, roomNeeded, verdict}
+use Rattle.smf.specs.declared.Answer.{Answer}
+use Rattle.smf.proofs.FileLaws.{piece-sound}
+use Rattle.smf.proofs.AcceptedLaws.{AcceptedFile}
+use Rattle.midicsv.specs.Text.{textOf}
+use Rattle.midicsv.proofs.BoundLaws.{text-bound}
+use Rattle.midicsv_write.specs.ToText.{textAnswer, textLeaves}
+
+pub refused-answer : (room : ℕ) (x : Outcome Piece) (v : Answer) → v ≡ verdict x → (v .number ≡ 0 → ⊥) → v ≡ textAnswer room x
+unfolding verdict textAnswer
+refused-answer room (ok p r) v e h = absurd (h (ap (λ (w : Answer). w .number) e))
+refused-answer room (refused k q) v e h = e
+
+pub refused-leaves : (x : Outcome Piece) (v : Answer) (old : List ℕ) → v ≡ verdict x → (v .number ≡ 0 → ⊥) → old ≡ textLeaves x old
+unfolding verdict textLeaves
+refused-leaves (ok p r) v old e h = absurd (h (ap (λ (w : Answer). w .number) e))
+refused-leaves (refused k q) v old e h = refl
+
+module _ (s : List ℕ) (there : AcceptedFile s) where
+  abbrev Out : List ℕ
+  Out = textOf (pieceRead s)
+
+  -- "at most 25·n bytes"
+  pub text-fits : Bytes s → length Out ≤ 25 * length s
+  unfolding readFile
+  text-fits bs =
+      let laid = piece-sound s (there .piece) (there .rest) bs (check-ok _ 1 0 _ _ _ (there .read) .1) in
+      rw (there .same) (text-bound s (there .piece) (laid .laid))
+
+  module _ (old : List ℕ) (n : ℕ) (size : n ≡ length Out) where
+    same-size : n ≡ length (textOf (there .piece))
+    same-size = size ∙ ap (λ p. length (textOf p)) (there .same)
+
+    pub room-answer : length old < n → (roomNeeded n ≡ textAnswer (length old) (readFile s)) × (old ≡ textLeaves (readFile s) old)
+    unfolding textAnswer textLeaves pick
+    room-answer h = (rw (there .read, ← same-size, lt-leb n (length old) h) refl, rw (there .read, ← same-size, lt-leb n (length old) h) refl)
+
+    pub fine-answer : n ≤ length old → success n ≡ textAnswer (length old) (readFile s)
+    unfolding textAnswer pick
+    fine-answer h = rw (there .read, ← same-size, le-leb n (length old) h) refl
+
+    pub fine-leaves : n ≤ length old → sets old 0 Out ≡ textLeaves (readFile s) old
+    unfolding textLeaves pick
+    fine-leaves h =
+        let past : 0 + length Out ≡ n = omega (arith, size) in
+        let put : sets old 0 Out ≡ Out ++ drop n old = sets-eq Out old 0 (omega (arith, size)) ∙ ap (λ k. Out ++ drop k old) past in
+        put ∙ ap (λ p. textOf p ++ drop n old) (there .same) ∙ rw (there .read, ← same-size, le-leb n (length old) h) refl

@@ -1,0 +1,282 @@
+-- The fields of a record in a row, the parts of a record's line, and how long they are.
+use mathlib.Core.Path.{_≡_, refl, sym, ap, subst, _∙_}
+use Prim.Native.Nat.{ℕ, zero, suc, _+_, _*_, _-_, _≤_, zero-le}
+use mathlib.Core.List.{List, [], _∷_, _++_, append-assoc, append-nil}
+use native.Mathlib.Omega.{arith}
+use denote.Enum.Declared.{tagOf}
+use types.Run.{OneOf, miss}
+use lib.ListN.{length, length-append}
+use lib.Dec.{ltb, leb, eqb}
+use Rattle.event.specs.Choice.{pick}
+use Rattle.event.specs.Event.{Event, Kind, noteOff, noteOn, polyAftertouch, control, program, channelAftertouch, pitchBend, systemExclusive, systemExclusivePacket, sequenceNumber, text, channelPrefix, midiPort, endTrack, tempo, smpteOffset, timeSignature, keySignature, sequencerSpecific, unknownMeta}
+use Rattle.event.specs.Frame.{keyByte}
+use Rattle.event.specs.Reader.{keyOf}
+use Rattle.event.specs.Step.{kindFrom}
+use Rattle.event.specs.declared.Time.{Time}
+use Rattle.event.specs.declared.EventKind.{EventKind}
+use Rattle.event.specs.declared.EventKind.the-variants.{NoteOff, NoteOn, PolyAftertouch, Control, Program, ChannelAftertouch, PitchBend, SystemExclusive, SystemExclusivePacket, SequenceNumber, Text, ChannelPrefix, MidiPort, EndTrack, Tempo, SmpteOffset, TimeSignature, KeySignature, SequencerSpecific, UnknownMeta}
+use Rattle.event.proofs.EventKind.{the-type}
+use Rattle.event.proofs.ChoiceLaws.{by-test}
+use Rattle.event_write.specs.Written.{Written}
+use Rattle.event_write.proofs.DataLaws.{data-length}
+use Rattle.midicsv.specs.Field.{bytes, digitsOf, decimal, inOctal, escape, escapeAll, quote, Field, num, show, joined, further, lineOf}
+use Rattle.midicsv.specs.Table.{EventName, note-off, note-on, poly-aftertouch, control-change, program-change, channel-aftertouch, pitch-bend, system-exclusive, system-exclusive-packet, sequence-number, words, channel-prefix, midi-port, end-track, set-tempo, smpte-offset, time-signature, key-signature, sequencer-specific, unknown-meta, start-track, end-of-file, eventSpelled, spelled, Column, range, key, mode, freeType, Tail, none, oneText, sized, eventShape, shape}
+use Rattle.midicsv.specs.Record.{columnField, tailFields, fieldsOf, recordLine, nameOf, valuesOf}
+use Rattle.midicsv.specs.Text.{mark, eventRecord, recordsText}
+use Rattle.midicsv.proofs.FieldLaws.{decimal-length, quote-length, data-length as fields-length}
+use Rattle.midicsv_write.specs.Line.{eventFrom, columnFields, bodyFields, line, headerFor}
+
+-- ---- fields in a row
+
+further-append : (xs ys : List Field) → further (xs ++ ys) ≡ further xs ++ further ys
+unfolding further
+further-append [] ys = refl
+further-append (f ∷ xs) ys = ap (λ l. joined f ++ l) (further-append xs ys) ∙ sym (append-assoc (joined f) (further xs) (further ys))
+
+-- the last field of a row
+pub last-field : {old new : List ℕ} {at next : ℕ} (f : Field) → Written old at (joined f) new next → Written old at (further (f ∷ [])) new next
+unfolding further
+last-field {old} {new} {at} {next} f w = subst (λ z. Written old at z new next) (sym (append-nil (joined f))) w
+
+pub number-length : (n : ℕ) → length (joined (num n)) ≤ 12
+unfolding show
+number-length n = omega (arith, decimal-length n)
+
+pub three-length : (a b c : ℕ) → length (further (num a ∷ num b ∷ num c ∷ [])) ≤ 36
+unfolding further
+three-length a b c = simp length-append (omega (arith, number-length a, number-length b, number-length c))
+
+column-length : (c : Column) (n : ℕ) → length (show (columnField c n)) ≤ 11
+unfolding columnField show quote escapeAll escape inOctal pick
+column-length (range lo hi) n = omega (arith, decimal-length n)
+column-length key b = by-test (ltb b 8) (λ t. rw t (omega (arith, decimal-length b))) (λ t. rw t (omega (arith, decimal-length (256 - b))))
+column-length mode m = by-test (eqb m 0) (λ t. rw t (omega arith)) (λ t. rw t (omega arith))
+column-length freeType n = omega (arith, decimal-length n)
+
+pub key-length : (b : ℕ) → length (joined (columnField key b)) ≤ 13
+key-length b = omega (arith, column-length key b)
+
+-- ---- a key's byte
+
+key-same : (b : ℕ) → b ≤ 255 → keyByte (keyOf b) ≡ b
+unfolding keyByte keyOf pick
+key-same b h = by-test (leb b 7) (λ t. rw t refl) (λ t. rw t (omega arith))
+
+pub key-fields : (b m : ℕ) → b ≤ 255 → further (columnField key b ∷ columnField mode m ∷ []) ≡ further (columnFields (keySignature (keyOf b) m))
+unfolding nameOf eventShape valuesOf fieldsOf tailFields
+key-fields b m h = ap (λ z. further (columnField key z ∷ columnField mode m ∷ [])) (sym (key-same b h))
+
+-- ---- lines without an event
+
+pub start-line : (n : ℕ) → decimal n ++ bytes ", 0, Start_track\n" ≡ line (mark start-track n)
+unfolding recordsText recordLine lineOf further show spelled shape fieldsOf tailFields decimal digitsOf pick
+start-line n = sym (append-assoc (decimal n) (bytes ", 0, Start_track") (10 ∷ []))
+
+pub start-line-length : (n : ℕ) → length (line (mark start-track n)) ≤ 28
+start-line-length n = rw (← start-line n) (simp length-append (omega (arith, decimal-length n)))
+
+pub end-line : bytes "0, 0, End_of_file\n" ≡ line (mark end-of-file 0)
+unfolding recordsText recordLine lineOf further show spelled shape fieldsOf tailFields decimal digitsOf pick
+end-line = refl
+
+-- the columns of the Header
+pub header-line : (a b c : ℕ) → bytes "0, 0, Header" ++ (further (num a ∷ num b ∷ num c ∷ []) ++ (10 ∷ [])) ≡ line (headerFor a b c)
+unfolding recordsText recordLine lineOf further show spelled shape fieldsOf tailFields columnField decimal digitsOf pick
+header-line a b c = refl
+
+pub header-line-length : (a b c : ℕ) → length (line (headerFor a b c)) ≤ 49
+header-line-length a b c = rw (← header-line a b c) (simp length-append (omega (arith, three-length a b c)))
+
+-- ---- the row of an event: its data are in the Text, or the Data, alone
+
+pub record SameRow (body : List ℕ) (k : EventKind) : Type 0 where
+  pub names : nameOf (kindFrom [] k) ≡ nameOf (kindFrom body k)
+  pub columns : columnFields (kindFrom [] k) ≡ columnFields (kindFrom body k)
+  pub data-few : length (valuesOf (kindFrom body k) .body) ≤ length body
+
+pub same-row : (body : List ℕ) (k : EventKind) → SameRow body k
+unfolding kindFrom nameOf eventShape valuesOf fieldsOf tailFields
+same-row body (NoteOff a b c) = record { names = refl; columns = refl; data-few = zero-le }
+same-row body (NoteOn a b c) = record { names = refl; columns = refl; data-few = zero-le }
+same-row body (PolyAftertouch a b c) = record { names = refl; columns = refl; data-few = zero-le }
+same-row body (Control a b c) = record { names = refl; columns = refl; data-few = zero-le }
+same-row body (Program a b) = record { names = refl; columns = refl; data-few = zero-le }
+same-row body (ChannelAftertouch a b) = record { names = refl; columns = refl; data-few = zero-le }
+same-row body (PitchBend a b) = record { names = refl; columns = refl; data-few = zero-le }
+same-row body (SystemExclusive a b) = record { names = refl; columns = refl; data-few = data-length body a b }
+same-row body (SystemExclusivePacket a b) = record { names = refl; columns = refl; data-few = data-length body a b }
+same-row body (SequenceNumber a) = record { names = refl; columns = refl; data-few = zero-le }
+same-row body (Text t a b) = record { names = refl; columns = refl; data-few = data-length body a b }
+same-row body (ChannelPrefix a) = record { names = refl; columns = refl; data-few = zero-le }
+same-row body (MidiPort a) = record { names = refl; columns = refl; data-few = zero-le }
+same-row body EndTrack = record { names = refl; columns = refl; data-few = zero-le }
+same-row body (Tempo a) = record { names = refl; columns = refl; data-few = zero-le }
+same-row body (SmpteOffset a b c d e) = record { names = refl; columns = refl; data-few = zero-le }
+same-row body (TimeSignature a b c d) = record { names = refl; columns = refl; data-few = zero-le }
+same-row body (KeySignature a b) = record { names = refl; columns = refl; data-few = zero-le }
+same-row body (SequencerSpecific a b) = record { names = refl; columns = refl; data-few = data-length body a b }
+same-row body (UnknownMeta t a b) = record { names = refl; columns = refl; data-few = data-length body a b }
+
+-- its fields are those of its columns, then those of its Text or Data
+row-fields : (k : Kind) → fieldsOf (eventShape (nameOf k) .columns) (eventShape (nameOf k) .tail) (valuesOf k .columns) (valuesOf k .body) ≡ columnFields k ++ bodyFields k
+unfolding nameOf eventShape valuesOf fieldsOf tailFields
+row-fields (noteOff c n v) = refl
+row-fields (noteOn c n v) = refl
+row-fields (polyAftertouch c n v) = refl
+row-fields (control c n v) = refl
+row-fields (program c p) = refl
+row-fields (channelAftertouch c v) = refl
+row-fields (pitchBend c v) = refl
+row-fields (systemExclusive d) = refl
+row-fields (systemExclusivePacket d) = refl
+row-fields (sequenceNumber n) = refl
+row-fields (text t d) = refl
+row-fields (channelPrefix n) = refl
+row-fields (midiPort n) = refl
+row-fields endTrack = refl
+row-fields (tempo n) = refl
+row-fields (smpteOffset h m s f u) = refl
+row-fields (timeSignature n d c b) = refl
+row-fields (keySignature n m) = refl
+row-fields (sequencerSpecific d) = refl
+row-fields (unknownMeta t d) = refl
+
+text-name : (t : ℕ) → length (eventSpelled (words t)) ≤ 23
+unfolding eventSpelled
+text-name zero = omega arith
+text-name (suc zero) = omega arith
+text-name (suc (suc zero)) = omega arith
+text-name (suc (suc (suc zero))) = omega arith
+text-name (suc (suc (suc (suc zero)))) = omega arith
+text-name (suc (suc (suc (suc (suc zero))))) = omega arith
+text-name (suc (suc (suc (suc (suc (suc zero)))))) = omega arith
+text-name (suc (suc (suc (suc (suc (suc (suc zero))))))) = omega arith
+text-name (suc (suc (suc (suc (suc (suc (suc (suc t)))))))) = omega arith
+
+few : (g : EventName) → (length (eventSpelled g) ≤ 23) × (length (eventShape g .columns) ≤ 5)
+unfolding eventSpelled eventShape
+few note-off = omega arith
+few note-on = omega arith
+few poly-aftertouch = omega arith
+few control-change = omega arith
+few program-change = omega arith
+few channel-aftertouch = omega arith
+few pitch-bend = omega arith
+few system-exclusive = omega arith
+few system-exclusive-packet = omega arith
+few sequence-number = omega arith
+few (words t) = (text-name t, omega arith)
+few channel-prefix = omega arith
+few midi-port = omega arith
+few end-track = omega arith
+few set-tempo = omega arith
+few smpte-offset = omega arith
+few time-signature = omega arith
+few key-signature = omega arith
+few sequencer-specific = omega arith
+few unknown-meta = omega arith
+
+-- ---- how long its parts can be
+
+pub name-length : (k : Kind) → length (eventSpelled (nameOf k)) ≤ 23
+name-length k = few (nameOf k) .0
+
+row-length : (cs : List Column) (ns : List ℕ) → length (further (fieldsOf cs none ns [])) ≤ 13 * length cs
+unfolding fieldsOf tailFields further
+row-length [] ns = omega arith
+row-length (c ∷ cs) [] = omega arith
+row-length (c ∷ cs) (n ∷ ns) = let h = row-length cs ns in simp length-append (omega (arith, column-length c n))
+
+pub columns-length : (k : Kind) → length (further (columnFields k)) ≤ 65
+columns-length k = omega (arith, row-length (eventShape (nameOf k) .columns) (valuesOf k .columns), few (nameOf k) .1)
+
+tail-length : (t : Tail) (d : List ℕ) → length (further (tailFields t d)) ≤ 12 + 12 * length d
+unfolding tailFields further show
+tail-length none d = omega arith
+tail-length oneText d = simp length-append (omega (arith, quote-length d))
+tail-length sized d = simp length-append (omega (arith, decimal-length (length d), fields-length d))
+
+pub body-length : (body : List ℕ) (k : EventKind) → length (further (bodyFields (kindFrom body k))) ≤ 12 + 12 * length body
+body-length body k = omega (arith, tail-length (eventShape (nameOf (kindFrom body k)) .tail) (valuesOf (kindFrom body k) .body), same-row body k .data-few)
+
+-- ---- the kinds without columns, and those without Text or Data, by the tags of the code's enum
+
+abbrev columnless : List ℕ
+columnless = 7 ∷ 8 ∷ 10 ∷ 13 ∷ 18 ∷ []
+
+pub no-columns : (k : EventKind) → OneOf columnless (tagOf the-type k) → columnFields (kindFrom [] k) ≡ []
+unfolding kindFrom nameOf eventShape valuesOf fieldsOf tailFields
+no-columns (NoteOff a b c) h = absurd (miss columnless 0 tt h)
+no-columns (NoteOn a b c) h = absurd (miss columnless 1 tt h)
+no-columns (PolyAftertouch a b c) h = absurd (miss columnless 2 tt h)
+no-columns (Control a b c) h = absurd (miss columnless 3 tt h)
+no-columns (Program a b) h = absurd (miss columnless 4 tt h)
+no-columns (ChannelAftertouch a b) h = absurd (miss columnless 5 tt h)
+no-columns (PitchBend a b) h = absurd (miss columnless 6 tt h)
+no-columns (SystemExclusive a b) h = refl
+no-columns (SystemExclusivePacket a b) h = refl
+no-columns (SequenceNumber a) h = absurd (miss columnless 9 tt h)
+no-columns (Text t a b) h = refl
+no-columns (ChannelPrefix a) h = absurd (miss columnless 11 tt h)
+no-columns (MidiPort a) h = absurd (miss columnless 12 tt h)
+no-columns EndTrack h = refl
+no-columns (Tempo a) h = absurd (miss columnless 14 tt h)
+no-columns (SmpteOffset a b c d e) h = absurd (miss columnless 15 tt h)
+no-columns (TimeSignature a b c d) h = absurd (miss columnless 16 tt h)
+no-columns (KeySignature a b) h = absurd (miss columnless 17 tt h)
+no-columns (SequencerSpecific a b) h = refl
+no-columns (UnknownMeta t a b) h = absurd (miss columnless 19 tt h)
+
+abbrev bodiless : List ℕ
+bodiless = 0 ∷ 1 ∷ 2 ∷ 3 ∷ 4 ∷ 5 ∷ 6 ∷ 9 ∷ 11 ∷ 12 ∷ 13 ∷ 14 ∷ 15 ∷ 16 ∷ 17 ∷ []
+
+pub no-body : (body : List ℕ) (k : EventKind) → OneOf bodiless (tagOf the-type k) → bodyFields (kindFrom body k) ≡ []
+unfolding kindFrom nameOf eventShape valuesOf tailFields
+no-body body (NoteOff a b c) h = refl
+no-body body (NoteOn a b c) h = refl
+no-body body (PolyAftertouch a b c) h = refl
+no-body body (Control a b c) h = refl
+no-body body (Program a b) h = refl
+no-body body (ChannelAftertouch a b) h = refl
+no-body body (PitchBend a b) h = refl
+no-body body (SystemExclusive a b) h = absurd (miss bodiless 7 tt h)
+no-body body (SystemExclusivePacket a b) h = absurd (miss bodiless 8 tt h)
+no-body body (SequenceNumber a) h = refl
+no-body body (Text t a b) h = absurd (miss bodiless 10 tt h)
+no-body body (ChannelPrefix a) h = refl
+no-body body (MidiPort a) h = refl
+no-body body EndTrack h = refl
+no-body body (Tempo a) h = refl
+no-body body (SmpteOffset a b c d e) h = refl
+no-body body (TimeSignature a b c d) h = refl
+no-body body (KeySignature a b) h = refl
+no-body body (SequencerSpecific a b) h = absurd (miss bodiless 18 tt h)
+no-body body (UnknownMeta t a b) h = absurd (miss bodiless 19 tt h)
+
+-- ---- its line
+
+-- Track and Time, to where the name begins
+abbrev pub startOf : ℕ → ℕ → List ℕ
+startOf track time = decimal track ++ joined (num time) ++ (44 ∷ 32 ∷ [])
+
+pub start-length : (track time : ℕ) → length (startOf track time) ≤ 24
+start-length track time =
+    simp length-append (omega (arith, decimal-length track, number-length time))
+
+-- the same parts, grouped as they are written
+regroup : (a b n c d : List ℕ) → (a ++ b ++ (44 ∷ 32 ∷ [])) ++ (n ++ (c ++ (d ++ (10 ∷ [])))) ≡ (a ++ (b ++ (44 ∷ 32 ∷ (n ++ (c ++ d))))) ++ (10 ∷ [])
+regroup a b n c d = simp append-assoc
+
+whole-line : (track : ℕ) (e : Event) → startOf track (e .time) ++ (eventSpelled (nameOf (e .kind)) ++ (further (columnFields (e .kind)) ++ (further (bodyFields (e .kind)) ++ (10 ∷ []))))
+    ≡ line (eventRecord track e)
+unfolding recordsText recordLine lineOf further show spelled shape eventRecord
+whole-line track e =
+    let k = e .kind in
+    let same = ap further (row-fields k) ∙ further-append (columnFields k) (bodyFields k) in
+    regroup (decimal track) (joined (num (e .time))) (eventSpelled (nameOf k)) (further (columnFields k)) (further (bodyFields k))
+    ∙ ap (λ z. (decimal track ++ (joined (num (e .time)) ++ (44 ∷ 32 ∷ (eventSpelled (nameOf k) ++ z)))) ++ (10 ∷ [])) (sym same)
+
+pub event-line : (track : ℕ) (t : Time) (body : List ℕ) (k : EventKind)
+    → startOf track (t .0) ++ (eventSpelled (nameOf (kindFrom [] k)) ++ (further (columnFields (kindFrom [] k)) ++ (further (bodyFields (kindFrom body k)) ++ (10 ∷ []))))
+    ≡ line (eventRecord track (eventFrom t body k))
+event-line track t body k = rw (same-row body k .columns, same-row body k .names) (whole-line track (eventFrom t body k))

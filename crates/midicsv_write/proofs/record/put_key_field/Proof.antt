@@ -1,0 +1,51 @@
+use Rattle.event.specs.Choice.{pick}
+use Rattle.event_write.proofs.WriteLaws.{then}
+use Rattle.midicsv.specs.Field.{show}
+use Rattle.midicsv.specs.Record.{columnField}
+use borrow.Author.Tests.{lt-ltb, le-ltb}
+use borrow.Author.Needs.{needs}
+use Rattle.midicsv_write.proofs.record.put_key_field.Statement.{statement}
+use Rattle.midicsv_write.proofs.record.put_key_field.Tie as tie
+
+put-number-field-requires : tie.Need-put-number-field-requires
+put-number-field-requires c κs = search needs
+
+same-length : tie.Need-same-length
+same-length c = search needs
+
+returns : tie.Need-returns
+unfolding columnField show pick
+returns c = rw (lt-ltb _ _ (c .before .before .before .before .if1 .taken)) (c .before .before .put-number-field .ensures)
+
+slice-aggregate-put-bytes : tie.Need-slice-aggregate-put-bytes
+slice-aggregate-put-bytes c = search needs
+
+put-bytes-requires : tie.Need-put-bytes-requires
+put-bytes-requires c κs = search needs
+
+sub-put-decimal : tie.Need-sub-put-decimal
+sub-put-decimal c = search needs
+
+put-decimal-requires : tie.Need-put-decimal-requires
+put-decimal-requires c κs = search needs
+
+same-length-2 : tie.Need-same-length-2
+same-length-2 c = search needs
+
+returns-2 : tie.Need-returns-2
+unfolding columnField show pick
+returns-2 c = rw (le-ltb _ _ (c .before .before .before .before .before .before .before .before .before .if1 .left)) (then (c .before .before .before .before .before .before .put-bytes .ensures) (c .before .before .put-decimal .ensures))
+
+pub put-key-field-spec : {M : Type 1} → statement M
+put-key-field-spec =
+    tie.close
+    (tie.spec
+    put-number-field-requires
+    same-length
+    returns
+    slice-aggregate-put-bytes
+    put-bytes-requires
+    sub-put-decimal
+    put-decimal-requires
+    same-length-2
+    returns-2)

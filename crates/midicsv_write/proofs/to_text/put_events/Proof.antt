@@ -1,0 +1,122 @@
+use Prim.Native.Nat.{_-_, _≤_}
+use lib.ListN.{length}
+use Rattle.event.specs.Outcome.{Readable}
+use Rattle.event.proofs.BytesLaws.{bytes-of}
+use Rattle.event_write.proofs.WriteLaws.{Remains, all-remains, go-on, finish}
+use Rattle.smf.proofs.TurnLaws.{A, turn-stop, event-came, turn-place, turn-next, turn-end}
+use Rattle.midicsv_write.proofs.TextLaws.{EventsLeft, next-line, last-line, events-few}
+use mathlib.Core.Path.{_≡_, refl, sym, _∙_}
+use native.Mathlib.Omega.{arith}
+use borrow.Author.Needs.{needs}
+use Rattle.midicsv_write.proofs.to_text.put_events.Statement.{statement}
+use Rattle.midicsv_write.proofs.to_text.put_events.Tie as tie
+
+abbrev Inv-loop : tie.InvT-loop
+Inv-loop out₀ from body track next₀ at₀ time₀ status₀ out next at time status = (at ≤ length body) × (length out ≡ length out₀) × Readable (A body at (time .0) status) × Remains out₀ from (EventsLeft track body 0 0 0) out next (EventsLeft track body at (time .0) status)
+
+abbrev μ-loop : tie.MeasureT-loop
+μ-loop out₀ from body track next₀ at₀ time₀ status₀ out next at time status = length body - at
+
+loop-holds : tie.Need-loop-holds Inv-loop μ-loop
+loop-holds c = (omega arith, refl, c .before .before .pre .1 .1 .1, all-remains _ _ _)
+
+read-event-requires : tie.Need-read-event-requires Inv-loop μ-loop
+read-event-requires c κs = search needs
+
+enum-known-number : tie.Need-enum-known-number Inv-loop μ-loop
+enum-known-number c = search needs
+
+same-length : tie.Need-same-length Inv-loop μ-loop
+same-length c = c .before .before .before .before .loop .inv .1
+
+returns : tie.Need-returns Inv-loop μ-loop
+returns c =
+    let a = c .before .before .before .before .before .before .before .args in
+    let s = a .body .now in
+    let l = c .before .before .before .before .loop in
+    let bytes = bytes-of s (λ i. omega (arith, c .before .before .before .before .before .shared-slice-known .given i)) in
+    absurd (turn-stop s (l .at) (l .time .0) (l .status) (c .before .number .given .0 .0) bytes (sym (c .before .before .before .read-event .ensures) ∙ c .before .number .given .1) (l .inv .2))
+
+enum-known-t : tie.Need-enum-known-t Inv-loop μ-loop
+enum-known-t c = search needs
+
+put-event-line-requires : tie.Need-put-event-line-requires Inv-loop μ-loop
+put-event-line-requires c κs =
+    let a = c .before .before .before .before .before .before .before .before .args in
+    let s = a .body .now in
+    let l = c .before .before .before .before .before .loop in
+    let bytes = bytes-of s (λ i. omega (arith, c .before .before .before .before .before .before .shared-slice-known .given i)) in
+    let p = c .before .before .before .before .before .before .before .before .pre in
+    (omega (arith, l .inv .3 .place, events-few (a .track) s 0 0 0 (p .1 .1 .0) bytes (p .1 .1 .1), p .0, p .1 .0), p .1 .0)
+
+is-end-requires : tie.Need-is-end-requires Inv-loop μ-loop
+is-end-requires c κs = search needs
+
+same-length-2 : tie.Need-same-length-2 Inv-loop μ-loop
+same-length-2 c = c .before .before .before .before .put-event-line .kept .0 ∙ c .before .before .before .before .before .before .before .before .before .before .loop .inv .1
+
+returns-2 : tie.Need-returns-2 Inv-loop μ-loop
+returns-2 c =
+    let a = c .before .before .before .before .before .before .before .before .before .before .before .before .before .args in
+    let s = a .body .now in
+    let l = c .before .before .before .before .before .before .before .before .before .before .loop in
+    let bytes = bytes-of s (λ i. omega (arith, c .before .before .before .before .before .before .before .before .before .before .before .shared-slice-known .given i)) in
+    let g = c .before .before .before .before .before .before .before .t .given in
+    let came = sym (c .before .before .before .before .before .before .before .before .before .read-event .ensures) ∙ g .1 in
+    let u = g .0 .0 in
+    let k = g .0 .1 .0 in
+    let q = g .0 .1 .1 .0 in
+    let st = g .0 .1 .1 .1 .0 in
+    let e = event-came s (l .at) (l .time .0) (l .status) u k q st bytes (l .inv .0) came in
+    let all = turn-end s (l .at) (l .time .0) (l .status) u k q st bytes (l .inv .0) came (l .inv .2) (sym (c .before .is-end .ensures) ∙ c .if1 .taken) in
+    finish _ _ (l .inv .3) (last-line (a .track) s (l .at) (l .time .0) (l .status) u k q st e all) (c .before .before .before .before .put-event-line .ensures)
+
+loop-less : tie.Need-loop-less Inv-loop μ-loop
+loop-less c =
+    let a = c .before .before .before .before .before .before .before .before .before .before .before .before .before .args in
+    let s = a .body .now in
+    let l = c .before .before .before .before .before .before .before .before .before .before .loop in
+    let bytes = bytes-of s (λ i. omega (arith, c .before .before .before .before .before .before .before .before .before .before .before .shared-slice-known .given i)) in
+    let g = c .before .before .before .before .before .before .before .t .given in
+    let came = sym (c .before .before .before .before .before .before .before .before .before .read-event .ensures) ∙ g .1 in
+    let u = g .0 .0 in
+    let k = g .0 .1 .0 in
+    let q = g .0 .1 .1 .0 in
+    let st = g .0 .1 .1 .1 .0 in
+    omega (arith, turn-place s (l .at) (l .time .0) (l .status) u k q st bytes (l .inv .0) came)
+
+loop-again : tie.Need-loop-again Inv-loop μ-loop
+loop-again c =
+    let a = c .before .before .before .before .before .before .before .before .before .before .before .before .before .args in
+    let s = a .body .now in
+    let l = c .before .before .before .before .before .before .before .before .before .before .loop in
+    let bytes = bytes-of s (λ i. omega (arith, c .before .before .before .before .before .before .before .before .before .before .before .shared-slice-known .given i)) in
+    let g = c .before .before .before .before .before .before .before .t .given in
+    let came = sym (c .before .before .before .before .before .before .before .before .before .read-event .ensures) ∙ g .1 in
+    let u = g .0 .0 in
+    let k = g .0 .1 .0 in
+    let q = g .0 .1 .1 .0 in
+    let st = g .0 .1 .1 .1 .0 in
+    let e = event-came s (l .at) (l .time .0) (l .status) u k q st bytes (l .inv .0) came in
+    let p = turn-place s (l .at) (l .time .0) (l .status) u k q st bytes (l .inv .0) came in
+    let n = turn-next s (l .at) (l .time .0) (l .status) u k q st bytes (l .inv .0) came (l .inv .2) (sym (c .before .is-end .ensures) ∙ c .if1 .left) in
+    (p .1, c .before .before .before .before .put-event-line .kept .0 ∙ l .inv .1, n .0, go-on _ _ _ (l .inv .3) (next-line (a .track) s (l .at) (l .time .0) (l .status) u k q st e (n .1)) (c .before .before .before .before .put-event-line .ensures))
+
+pub put-events-spec : {M : Type 1} → statement M
+put-events-spec =
+    tie.close
+    (tie.spec
+    Inv-loop
+    μ-loop
+    loop-holds
+    read-event-requires
+    enum-known-number
+    same-length
+    returns
+    enum-known-t
+    put-event-line-requires
+    is-end-requires
+    same-length-2
+    returns-2
+    loop-less
+    loop-again)

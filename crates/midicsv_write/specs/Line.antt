@@ -1,0 +1,30 @@
+-- What the writers of a record's parts write, of an event as the event side answers it: kind and fields, and the track's body with its data.
+use mathlib.Core.List.{List, [], _∷_}
+use Prim.Native.Nat.{ℕ}
+use Rattle.event.specs.Event.{Event, Kind}
+use Rattle.event.specs.Step.{kindFrom}
+use Rattle.event.specs.declared.Time.{Time}
+use Rattle.event.specs.declared.EventKind.{EventKind}
+use Rattle.midicsv.specs.Field.{Field}
+use Rattle.midicsv.specs.Table.{header, none, eventShape}
+use Rattle.midicsv.specs.Record.{Record, tailFields, fieldsOf, nameOf, plain, valuesOf}
+use Rattle.midicsv.specs.Text.{eventRecord, recordsText}
+
+-- the event of an answer of the event side
+abbrev pub eventFrom : Time → List ℕ → EventKind → Event
+eventFrom t body k = record { time = t .0; kind = kindFrom body k }
+
+-- the fields of its columns, and those of its Text, or Length and Data
+abbrev pub columnFields : Kind → List Field
+columnFields k = fieldsOf (eventShape (nameOf k) .columns) none (valuesOf k .columns) []
+
+abbrev pub bodyFields : Kind → List Field
+bodyFields k = tailFields (eventShape (nameOf k) .tail) (valuesOf k .body)
+
+-- a record's line with its LF
+abbrev pub line : Record → List ℕ
+line r = recordsText (r ∷ [])
+
+-- "`0, 0, Header, format, tracks, division`"
+abbrev pub headerFor : ℕ → ℕ → ℕ → Record
+headerFor format count pulses = record { track = 0; time = 0; name = header; values = plain (format ∷ count ∷ pulses ∷ []) }

@@ -1,0 +1,244 @@
+// The lines of records written. Each writes only where there is room and answers the place after.
+ghost use mathlib.Core.List.{[], _∷_, _++_};
+ghost use Prim.Native.Nat.{_≤_, _<_, _^_};
+ghost use lib.ListN.{length};
+ghost use Rattle.event.specs.Step.{kindFrom};
+ghost use Rattle.event_write.specs.Written.{Written};
+ghost use Rattle.midicsv.specs.Field.{decimal, num, joined, further};
+ghost use Rattle.midicsv.specs.Table.{key, mode, start-track, end-of-file};
+ghost use Rattle.midicsv.specs.Record.{columnField};
+ghost use Rattle.midicsv.specs.Text.{mark, eventRecord};
+ghost use Rattle.midicsv_write.specs.Line.{eventFrom, columnFields, bodyFields, line, headerFor};
+use event::EventKind;
+use event::Time;
+use event_write::bytes::put_byte;
+use event_write::bytes::put_bytes;
+use midicsv::field::put_decimal;
+use midicsv::field::put_number_field;
+use midicsv::field::put_sized;
+use midicsv::field::put_text_field;
+
+// A key, from its byte in the file.
+fn put_key_field(out: &mut [u8], at: usize, byte: u8) -> usize
+    requires { ⌜ at < 2 ^ 45 ⌝ }
+    ensures { λ r. ⌜ Written (now (out .entry)) at (joined (columnField key byte)) (now (out .exit)) r ⌝ }
+{
+    if byte < 8 {
+        return put_number_field(out, at, byte as u32);
+    }
+    let a = put_bytes(out, at, b", -");
+    put_decimal(out, a, 256 - byte as u32)
+}
+
+// "major" or "minor".
+fn put_mode_field(out: &mut [u8], at: usize, minor: u8) -> usize
+    requires { ⌜ at < 2 ^ 45 ⌝ }
+    ensures { λ r. ⌜ Written (now (out .entry)) at (joined (columnField mode minor)) (now (out .exit)) r ⌝ }
+{
+    if minor == 0 {
+        return put_bytes(out, at, b", \"major\"");
+    }
+    put_bytes(out, at, b", \"minor\"")
+}
+
+// Two, three and four numbers of a record.
+fn put_two_fields(out: &mut [u8], at: usize, a: u32, b: u32) -> usize
+    requires { ⌜ at < 2 ^ 45 ⌝ }
+    ensures { λ r. ⌜ Written (now (out .entry)) at (further (num a ∷ num b ∷ [])) (now (out .exit)) r ⌝ }
+{
+    let p = put_number_field(out, at, a);
+    put_number_field(out, p, b)
+}
+
+fn put_three_fields(out: &mut [u8], at: usize, a: u32, b: u32, c: u32) -> usize
+    requires { ⌜ at < 2 ^ 44 ⌝ }
+    ensures { λ r. ⌜ Written (now (out .entry)) at (further (num a ∷ num b ∷ num c ∷ [])) (now (out .exit)) r ⌝ }
+{
+    let p = put_number_field(out, at, a);
+    put_two_fields(out, p, b, c)
+}
+
+fn put_four_fields(out: &mut [u8], at: usize, a: u32, b: u32, c: u32, d: u32) -> usize
+    requires { ⌜ at < 2 ^ 43 ⌝ }
+    ensures { λ r. ⌜ Written (now (out .entry)) at (further (num a ∷ num b ∷ num c ∷ num d ∷ [])) (now (out .exit)) r ⌝ }
+{
+    let p = put_number_field(out, at, a);
+    put_three_fields(out, p, b, c, d)
+}
+
+// The columns of an event's record; data play no part in them.
+fn put_columns(out: &mut [u8], at: usize, kind: EventKind) -> usize
+    requires { ⌜ at < 2 ^ 42 ⌝ }
+    ensures { λ r. ⌜ Written (now (out .entry)) at (further (columnFields (kindFrom [] kind))) (now (out .exit)) r ⌝ }
+{
+    match kind {
+        EventKind::NoteOff {
+            channel,
+            key,
+            velocity,
+        } => put_three_fields(out, at, channel as u32, key as u32, velocity as u32),
+        EventKind::NoteOn {
+            channel,
+            key,
+            velocity,
+        } => put_three_fields(out, at, channel as u32, key as u32, velocity as u32),
+        EventKind::PolyAftertouch {
+            channel,
+            key,
+            value,
+        } => put_three_fields(out, at, channel as u32, key as u32, value as u32),
+        EventKind::Control {
+            channel,
+            controller,
+            value,
+        } => put_three_fields(out, at, channel as u32, controller as u32, value as u32),
+        EventKind::Program { channel, number } => put_two_fields(
+            out,
+            at,
+            channel as u32,
+            number as u32,
+        ),
+        EventKind::ChannelAftertouch { channel, value } => put_two_fields(
+            out,
+            at,
+            channel as u32,
+            value as u32,
+        ),
+        EventKind::PitchBend { channel, value } => put_two_fields(
+            out,
+            at,
+            channel as u32,
+            value as u32,
+        ),
+        EventKind::SequenceNumber { number } => put_number_field(out, at, number),
+        EventKind::ChannelPrefix { number } => put_number_field(out, at, number as u32),
+        EventKind::MidiPort { number } => put_number_field(out, at, number as u32),
+        EventKind::Tempo { micros } => put_number_field(out, at, micros),
+        EventKind::SmpteOffset {
+            hour,
+            minute,
+            second,
+            frame,
+            part,
+        } => {
+            let p = put_number_field(out, at, hour as u32);
+            put_four_fields(
+                out,
+                p,
+                minute as u32,
+                second as u32,
+                frame as u32,
+                part as u32,
+            )
+        }
+        EventKind::TimeSignature {
+            numerator,
+            denominator,
+            click,
+            notes,
+        } => put_four_fields(
+            out,
+            at,
+            numerator as u32,
+            denominator as u32,
+            click as u32,
+            notes as u32,
+        ),
+        EventKind::KeySignature { key, minor } => {
+            let p = put_key_field(out, at, key);
+            put_mode_field(out, p, minor)
+        }
+        EventKind::UnknownMeta { kind: t, .. } => put_number_field(out, at, t as u32),
+        _ => at,
+    }
+}
+
+// The Text, or the Length and Data, of an event's record.
+fn put_body(out: &mut [u8], at: usize, kind: EventKind, body: &[u8]) -> usize
+    requires { ⌜ at < 2 ^ 42 ⌝ ∗ ⌜ length (now body) < 2 ^ 32 ⌝ }
+    ensures { λ r. ⌜ Written (now (out .entry)) at (further (bodyFields (kindFrom (now (body .entry)) kind))) (now (out .exit)) r ⌝ }
+{
+    match kind {
+        EventKind::Text { start, len, .. } => put_text_field(
+            out,
+            at,
+            event::number::event_data(body, start, len),
+        ),
+        EventKind::SystemExclusive { start, len } => put_sized(
+            out,
+            at,
+            event::number::event_data(body, start, len),
+        ),
+        EventKind::SystemExclusivePacket { start, len } => put_sized(
+            out,
+            at,
+            event::number::event_data(body, start, len),
+        ),
+        EventKind::SequencerSpecific { start, len } => put_sized(
+            out,
+            at,
+            event::number::event_data(body, start, len),
+        ),
+        EventKind::UnknownMeta { start, len, .. } => put_sized(
+            out,
+            at,
+            event::number::event_data(body, start, len),
+        ),
+        _ => at,
+    }
+}
+
+// Track and Time, to where the name begins.
+fn put_line_start(out: &mut [u8], at: usize, track: u32, time: u32) -> usize
+    requires { ⌜ at < 2 ^ 42 ⌝ }
+    ensures { λ r. ⌜ Written (now (out .entry)) at (decimal track ++ joined (num time) ++ (44 ∷ 32 ∷ [])) (now (out .exit)) r ⌝ }
+{
+    let p = put_decimal(out, at, track);
+    let q = put_number_field(out, p, time);
+    put_bytes(out, q, b", ")
+}
+
+// The line of an event of the track so numbered.
+pub fn put_event_line(
+    out: &mut [u8],
+    at: usize,
+    track: u32,
+    time: Time,
+    kind: EventKind,
+    body: &[u8],
+) -> usize
+    requires { ⌜ at < 2 ^ 41 ⌝ ∗ ⌜ length (now body) ≤ 1048576 ⌝ }
+    ensures { λ r. ⌜ Written (now (out .entry)) at (line (eventRecord track (eventFrom time (now (body .entry)) kind))) (now (out .exit)) r ⌝ }
+{
+    let t = time.0;
+    let p = put_line_start(out, at, track, t);
+    let q = midicsv::name::put_event_name(out, p, kind);
+    let r = put_columns(out, q, kind);
+    let s = put_body(out, r, kind, body);
+    put_byte(out, s, 10)
+}
+
+// Start_track of the track so numbered, and End_of_file.
+pub fn put_start_line(out: &mut [u8], at: usize, track: u32) -> usize
+    requires { ⌜ at < 2 ^ 42 ⌝ }
+    ensures { λ r. ⌜ Written (now (out .entry)) at (line (mark start-track track)) (now (out .exit)) r ⌝ }
+{
+    let p = put_decimal(out, at, track);
+    put_bytes(out, p, b", 0, Start_track\n")
+}
+
+pub fn put_end_line(out: &mut [u8], at: usize) -> usize
+    requires { ⌜ at < 2 ^ 42 ⌝ }
+    ensures { λ r. ⌜ Written (now (out .entry)) at (line (mark end-of-file 0)) (now (out .exit)) r ⌝ }
+{
+    put_bytes(out, at, b"0, 0, End_of_file\n")
+}
+
+// The Header's line, which begins a text.
+pub fn put_header_line(out: &mut [u8], format: u32, count: u32, pulses: u32) -> usize
+    ensures { λ r. ⌜ Written (now (out .entry)) 0 (line (headerFor format count pulses)) (now (out .exit)) r ⌝ }
+{
+    let p = put_bytes(out, 0, b"0, 0, Header");
+    let q = put_three_fields(out, p, format, count, pulses);
+    put_byte(out, q, 10)
+}
