@@ -74,6 +74,17 @@ enum noferkash_number {
  * Length is always 0. */
 uint64_t noferkash_check(const uint8_t *file, size_t file_len);
 
+/* Writes the text of the file's piece into `out`: MIDICSV records, each ended by
+ * LF, no NUL after them. NOFERKASH_OK and the length written; bytes of `out`
+ * past it stay. A file of n bytes has at most 25 * n bytes of text, and in a
+ * room of that size nothing is measured first.
+ *
+ * Refusals, in this order; each leaves all of `out` as it was:
+ * - numbers 1 to 13, as noferkash_check answers them;
+ * - NOFERKASH_ROOM_TOO_SMALL when out_len is under the length needed, which the
+ *   answer gives. So out_len 0 asks for it. */
+uint64_t noferkash_file_to_text(const uint8_t *file, size_t file_len, uint8_t *out, size_t out_len);
+
 /* Writes the file's piece again into `out` in manner 1: a status byte left out
  * wherever permitted, every variable-length number in the fewest bytes.
  * NOFERKASH_OK and the length written; bytes of `out` past it stay. A tidied

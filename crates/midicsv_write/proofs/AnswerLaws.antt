@@ -4,18 +4,21 @@ use Prim.Native.Nat.{ℕ, _+_, _*_, _≤_, _<_}
 use mathlib.Core.List.{List, _++_}
 use native.Mathlib.Omega.{arith}
 use lib.ListN.{length, drop}
+use lib.Dec.{leb}
 use lib.Seq.{sets, sets-eq}
-use borrow.Author.Tests.{le-leb, lt-leb}
+use borrow.Author.Tests.{leb-true, le-leb, lt-leb}
 use Rattle.event.specs.Bytes.{Bytes}
 use Rattle.event.specs.Choice.{pick}
 use Rattle.event.specs.Outcome.{Outcome, ok, refused}
+use Rattle.event.proofs.ChoiceLaws.{by-test}
 use Rattle.event.proofs.OutcomeLaws.{check-ok}
 use Rattle.smf.specs.Piece.{Piece}
-use Rattle.smf.specs.Reader.{readFile}
+use Rattle.smf.specs.Reader.{fileLimit, readFile}
 use Rattle.smf.specs.PieceRead.{pieceRead}
 use Rattle.smf.specs.Answer.{success, roomNeeded, verdict}
 use Rattle.smf.specs.declared.Answer.{Answer}
 use Rattle.smf.proofs.FileLaws.{piece-sound}
+use Rattle.smf.proofs.RefusalLaws.{place-small}
 use Rattle.smf.proofs.AcceptedLaws.{AcceptedFile}
 use Rattle.midicsv.specs.Text.{textOf}
 use Rattle.midicsv.proofs.BoundLaws.{text-bound}
@@ -60,3 +63,24 @@ module _ (s : List ℕ) (there : AcceptedFile s) where
         let past : 0 + length Out ≡ n = omega (arith, size) in
         let put : sets old 0 Out ≡ Out ++ drop n old = sets-eq Out old 0 (omega (arith, size)) ∙ ap (λ k. Out ++ drop k old) past in
         put ∙ ap (λ p. textOf p ++ drop n old) (there .same) ∙ rw (there .read, ← same-size, le-leb n (length old) h) refl
+
+-- ---- the answers fit the exported number
+
+pub record Fits28 (a : Answer) : Type 0 where
+  pub place : a .place < 268435456
+  pub length : a .length < 268435456
+
+text-answer-fits : (room n : ℕ) → n < 268435456 → Fits28 (pick (leb n room) (success n) (roomNeeded n))
+unfolding pick
+text-answer-fits room n h = by-test (leb n room) (λ e. rw e (record { place = omega arith; length = h })) (λ e. rw e (record { place = omega arith; length = h }))
+
+answer-with : (room : ℕ) (f : List ℕ) (x : Outcome Piece) → Bytes f → readFile f ≡ x → verdict x .place ≤ fileLimit → Fits28 (textAnswer room x)
+unfolding textAnswer verdict readFile
+answer-with room f (ok p r) bs e h =
+    let (t, q) = check-ok _ 1 0 _ p r e in
+    let laid = piece-sound f p r bs q in
+    text-answer-fits room (length (textOf p)) (omega (arith, text-bound f p (laid .laid), leb-true (length f) fileLimit t))
+answer-with room f (refused k q) bs e h = record { place = omega (arith, h); length = omega arith }
+
+pub answer-fits : (room : ℕ) (f : List ℕ) → Bytes f → Fits28 (textAnswer room (readFile f))
+answer-fits room f bs = answer-with room f (readFile f) bs refl (place-small f bs)

@@ -1,0 +1,31 @@
+use mathlib.Core.Path.{subst}
+use Prim.Native.Nat.{_<_}
+use lib.ListN.{length}
+use Rattle.event.proofs.BytesLaws.{bytes-of}
+use Rattle.smf.specs.declared.Answer.{Answer}
+use Rattle.midicsv_write.proofs.AnswerLaws.{answer-fits}
+use Rattle.noferkash.specs.Packed.{packed}
+use native.Mathlib.Omega.{arith}
+use mathlib.Core.Path.{sym, _∙_, ap}
+use borrow.Author.Needs.{needs}
+use Rattle.noferkash.proofs.noferkash_file_to_text.Statement.{statement}
+use Rattle.noferkash.proofs.noferkash_file_to_text.Tie as tie
+
+file-to-text-requires : tie.Need-file-to-text-requires
+file-to-text-requires c κs = search needs
+
+pack-requires : tie.Need-pack-requires
+pack-requires c κs = let a = c .before .before .before .before .before .before .args in
+    let bytes = bytes-of (a .file .now) (λ i. omega (arith, c .before .before .before .before .before .shared-slice-known .given i)) in
+    let small = answer-fits (length (a .out .now)) (a .file .now) bytes in
+    let e = c .before .before .file-to-text .ensures .0 in
+    (subst (λ (v : Answer). v .place < 268435456) (sym e) (small .place), subst (λ (v : Answer). v .length < 268435456) (sym e) (small .length))
+
+same-length : tie.Need-same-length
+same-length c = search needs
+
+returns : tie.Need-returns
+returns c = (c .pack .ensures ∙ ap packed (c .before .before .before .file-to-text .ensures .0), c .before .before .before .file-to-text .ensures .1)
+
+pub noferkash-file-to-text-spec : {M : Type 1} → statement M
+noferkash-file-to-text-spec = tie.close (tie.spec file-to-text-requires pack-requires same-length returns)
