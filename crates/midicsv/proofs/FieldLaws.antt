@@ -25,7 +25,7 @@ pub decimal-length : (n : ℕ) → length (decimal n) ≤ 10
 unfolding decimal
 decimal-length n = digits-most 9 n .1
 
-abbrev ten : ℕ → ℕ
+abbrev pub ten : ℕ → ℕ
 ten zero = 1
 ten (suc k) = ten k * 10
 

@@ -12,7 +12,7 @@ use Rattle.midicsv.specs.Table.{Column, range, key, mode, freeType, Tail
 use Rattle.midicsv.specs.Record.{nameOf, valuesOf}
 
 unfoldable pub InColumn : Column → ℕ → Type 0
-InColumn (range lo hi) n = (lo ≤ n) × (n ≤ hi)
+InColumn (range lo hi) n = (lo ≤ n) × (n ≤ hi) × (n ≤ 4294967295)
 InColumn key b = (b < 8) ⊎ ((249 ≤ b) × (b < 256))
 InColumn mode m = m ≤ 1
 InColumn freeType t = (t ≤ 127) × (kindOf t ≡ unknownKind)

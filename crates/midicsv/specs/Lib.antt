@@ -4,3 +4,12 @@ pub mod Table
 pub mod Record
 pub mod Text
 pub mod Example
+pub mod Result
+pub mod ReadField
+pub mod Names
+pub mod ReadRecord
+pub mod KindOf
+pub mod Lines
+pub mod Order
+pub mod PieceOfText
+pub mod TextReadings
