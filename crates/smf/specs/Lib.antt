@@ -10,3 +10,4 @@ pub mod PieceRead
 pub mod Demand3
 pub mod Listing
 pub mod Slips
+pub mod Writing

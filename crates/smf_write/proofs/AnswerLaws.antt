@@ -21,7 +21,8 @@ use Rattle.smf.specs.declared.Answer.{Answer}
 use Rattle.smf.proofs.FileLaws.{piece-read}
 use Rattle.smf.proofs.MannerLaws.{short-laid}
 use Rattle.smf.proofs.RefusalLaws.{place-small}
-use Rattle.smf_write.specs.Tidy.{writeAnswer, writeLeaves, tidyAnswer, tidyLeaves}
+use Rattle.smf.specs.Writing.{writeAnswer, writeLeaves}
+use Rattle.smf_write.specs.Tidy.{tidyAnswer, tidyLeaves}
 
 -- a place and a length within the limit of a file
 pub record Small (a : Answer) : Type 0 where

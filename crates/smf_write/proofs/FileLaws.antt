@@ -29,7 +29,8 @@ use Rattle.smf.proofs.MannerLaws.{manner-tracks}
 use Rattle.smf.proofs.ListLaws.{R, none-left, Accepted}
 use Rattle.smf.proofs.TurnLaws.{TrackTurn}
 use Rattle.smf.proofs.AcceptedLaws.{headed, AcceptedFile}
-use Rattle.smf_write.specs.Tidy.{writeAnswer, writeLeaves, tidyAnswer, tidyLeaves, trackIn, tracksIn}
+use Rattle.smf.specs.Writing.{writeAnswer, writeLeaves}
+use Rattle.smf_write.specs.Tidy.{tidyAnswer, tidyLeaves, trackIn, tracksIn}
 
 -- ---- the loop over the tracks: so many from the place at on
 

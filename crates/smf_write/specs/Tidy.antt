@@ -1,10 +1,7 @@
 -- Tidying: "read, write again in manner 1"; the reading refusals, "After these .. 29, 14".
 use Prim.Native.Nat.{ℕ, _-_}
-use mathlib.Core.Bool.{_&&_}
-use mathlib.Core.List.{List, _++_}
-use lib.ListN.{length, drop}
-use lib.Dec.{leb}
-use Rattle.event.specs.Choice.{pick}
+use mathlib.Core.List.{List}
+use lib.ListN.{length}
 use Rattle.event.specs.Outcome.{Outcome, ok, refused}
 use Rattle.event.specs.Event.{Event}
 use Rattle.event.specs.Frame.{noStatus}
@@ -13,17 +10,9 @@ use Rattle.event.specs.declared.Delta.{Delta}
 use Rattle.smf.specs.Piece.{Piece}
 use Rattle.smf.specs.Layout.{layEvents, layTrack, layTracks}
 use Rattle.smf.specs.Manner.{spellEvents, spellTracks, fileOf}
-use Rattle.smf.specs.Reader.{fileLimit}
-use Rattle.smf.specs.Answer.{success, refusal, roomNeeded}
+use Rattle.smf.specs.Answer.{refusal}
+use Rattle.smf.specs.Writing.{writeAnswer, writeLeaves}
 use Rattle.smf.specs.declared.Answer.{Answer}
-
--- writing a file of n bytes into a room: 29 "written file would pass 1,048,576 bytes", 14 "lent room too small"
-unfoldable pub writeAnswer : ℕ → ℕ → Answer
-writeAnswer room n = pick (leb n fileLimit) (pick (leb n room) (success n) (roomNeeded n)) (refusal 29 0)
-
--- what the room holds afterwards: the bytes, "lent bytes past it stay"; on a refusal what it held
-unfoldable pub writeLeaves : List ℕ → List ℕ → List ℕ
-writeLeaves bytes old = pick (leb (length bytes) fileLimit && leb (length bytes) (length old)) (bytes ++ drop (length bytes) old) old
 
 unfoldable pub tidyAnswer : ℕ → Outcome Piece → Answer
 tidyAnswer room (ok p r) = writeAnswer room (length (fileOf short p))
