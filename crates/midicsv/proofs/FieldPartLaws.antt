@@ -56,20 +56,20 @@ number-part (c ∷ l) n r b e =
 -- ---- texts
 
 -- a text with a byte pushed in front
-push-ok : {X : Type 0} (c : ℕ) (m : Outcome (List ℕ)) (d r : List ℕ) → push c m ≡ ok d r → ((x : List ℕ) → m ≡ ok x r → c ∷ x ≡ d → X) → X
+pub push-ok : {X : Type 0} (c : ℕ) (m : Outcome (List ℕ)) (d r : List ℕ) → push c m ≡ ok d r → ((x : List ℕ) → m ≡ ok x r → c ∷ x ≡ d → X) → X
 unfolding push
 push-ok c (ok x q) d r e k = ok-same (c ∷ x) d q r e (λ p z. k x (ap (ok x) z) p)
 push-ok c (refused n p) d r e k = not-ok e
 
 -- the octal digits seen make a byte
-unfoldable SeenOk : Seen → Type 0
-SeenOk plain = Unit {0}
-SeenOk aQuote = Unit {0}
-SeenOk aSlash = Unit {0}
-SeenOk (octal1 n) = n < 4
-SeenOk (octal2 n) = n < 32
+unfoldable pub FineSeen : Seen → Type 0
+FineSeen plain = Unit {0}
+FineSeen aQuote = Unit {0}
+FineSeen aSlash = Unit {0}
+FineSeen (octal1 n) = n < 4
+FineSeen (octal2 n) = n < 32
 
-octal-value : (c : ℕ) → isOctal c ≡ true → c - 48 < 8
+pub octal-value : (c : ℕ) → isOctal c ≡ true → c - 48 < 8
 unfolding isOctal
 octal-value c t = let (a, b) = and-both (leb 48 c) (leb c 55) t in omega (arith, leb-true c 55 b)
 
@@ -83,8 +83,8 @@ taken-more c x l d r y h z e = rw (← e) ((h, z .0), omega arith, (z .2 .0, ome
 taken-later : (c : ℕ) (l d r : List ℕ) → Taken d r l → Taken d r (c ∷ l)
 taken-later c l d r z = (z .0, omega arith, (z .2 .0, omega arith))
 
-quoted-part : (l : List ℕ) (st : Seen) (d r : List ℕ) → Bytes l → SeenOk st → readQuoted l st ≡ ok d r → Taken d r l
-unfolding readQuoted SeenOk
+quoted-part : (l : List ℕ) (st : Seen) (d r : List ℕ) → Bytes l → FineSeen st → readQuoted l st ≡ ok d r → Taken d r l
+unfolding readQuoted FineSeen
 quoted-part [] plain d r b s e = not-ok e
 quoted-part [] aQuote d r b s e = ok-same [] d [] r e (λ p q. rw (← p, ← q) (tt, omega arith, (tt, omega arith)))
 quoted-part [] aSlash d r b s e = not-ok e
@@ -159,7 +159,7 @@ module _ (n : ℕ) where
   name-fine s = tt
 
   kind-part : (l : List ℕ) (f : Field) (r : List ℕ) → Bytes l → length l ≤ n → fieldOf l ≡ ok f r → Fine n f × Part r l
-  unfolding fieldOf SeenOk
+  unfolding fieldOf FineSeen
   kind-part [] f r b s e = not-ok e
   kind-part (c ∷ l) f r b s e =
       pick-cases (eqb c 34) _ _ _ e
