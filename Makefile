@@ -1,6 +1,7 @@
 # make          builds the proved library and runs it on an example file
 # make test     the gate: every test, then every proof from nothing
-# make bench    times checking and tidying a file of about 1 MiB beside the second program
+# make bench    times checking, tidying and writing as text a file of about 1 MiB: ours beside the second
+#               program's and, of texts, beside a Rust converter made for speed and midicsv, if installed
 ARCHIVE = target/staticlib/libnoferkash.a
 EXAMPLE = tests/corpus/gen-lilypond__own1.mid
 

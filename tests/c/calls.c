@@ -5,6 +5,7 @@
 #include <string.h>
 
 #define LIMIT 1048576
+#define TEXT_LIMIT (25 * LIMIT)
 
 #define HEADER "MThd\0\0\0\6\0\0\0\1\0\x60"
 #define CHUNK(length, body) "MTrk\0\0\0" length body
@@ -60,7 +61,7 @@ static const struct file_case cases[] = {
 
 /* A file, the room lent for it, and the answer due. With 0 the bytes of `due`
  * are written; 14 writes none but has their length. */
-struct tidy_case {
+struct written_case {
     const char *what;
     const char *bytes;
     size_t length;
@@ -79,7 +80,7 @@ struct tidy_case {
 /* A refusal other than 14 has the length 0. */
 #define NOTHING "", 0
 
-static const struct tidy_case tidy_cases[] = {
+static const struct written_case tidy_cases[] = {
     {"manner 0 becomes manner 1", BYTES(FULL), 39, NOFERKASH_OK, 0, BYTES(SHORT)},
     {"room larger", BYTES(FULL), 50, NOFERKASH_OK, 0, BYTES(SHORT)},
     {"room one short", BYTES(FULL), 38, NOFERKASH_ROOM_TOO_SMALL, 0, BYTES(SHORT)},
@@ -120,6 +121,87 @@ static const struct tidy_case tidy_cases[] = {
     {"a fault, and no room", BYTES(FULL "\0"), 0, NOFERKASH_BYTES_AFTER_LAST_TRACK, 40, NOTHING}
 };
 
+/* In the texts below a quote or a backslash stands as C has it. */
+#define HEADER_LINE "0, 0, Header, 0, 1, 96\n"
+#define START_LINE "1, 0, Start_track\n"
+#define END_LINES "1, 0, End_track\n0, 0, End_of_file\n"
+#define TEXT(lines) HEADER_LINE START_LINE lines END_LINES
+#define EXAMPLE_TEXT \
+    HEADER_LINE START_LINE "1, 0, Title_t, \"A\"\"\"\n1, 0, Note_on_c, 0, 60, 64\n" \
+    "1, 96, Note_on_c, 0, 60, 0\n1, 96, End_track\n0, 0, End_of_file\n"
+/* One event of each kind, End_track excepted, and each of the seven texts. */
+#define EVERY_KIND \
+    "\0\x80\0\x7F" "\0\x91\x3C\0" "\0\xA2\1\2" "\0\xB3\7\x64" "\0\xC4\x7F" "\0\xD5\0" \
+    "\0\xE6\0\x40" "\0\x7F\x7F" "\0\xF0\3\x43\x12\xF7" "\0\xF7\1\xFF" \
+    "\0\xFF\0\2\xFF\xFE" "\0\xFF\1\1t" "\0\xFF\2\1c" "\0\xFF\3\1n" "\0\xFF\4\1i" "\0\xFF\5\1l" \
+    "\0\xFF\6\1m" "\0\xFF\7\0" "\0\xFF\x20\1\xFF" "\0\xFF\x21\1\x10" "\0\xFF\x51\3\x0B\x71\xB0" \
+    "\0\xFF\x54\5\xFF\0\1\2\x63" "\0\xFF\x58\4\6\3\x24\x08" "\0\xFF\x59\2\xFD\1" \
+    "\0\xFF\x59\2\7\0" "\0\xFF\x7F\2\0\x0A" "\0\xFF\x60\0" "\0\xFF\x08\1\x64"
+#define EVERY_KIND_LINES \
+    "1, 0, Note_off_c, 0, 0, 127\n1, 0, Note_on_c, 1, 60, 0\n1, 0, Poly_aftertouch_c, 2, 1, 2\n" \
+    "1, 0, Control_c, 3, 7, 100\n1, 0, Program_c, 4, 127\n1, 0, Channel_aftertouch_c, 5, 0\n" \
+    "1, 0, Pitch_bend_c, 6, 8192\n1, 0, Pitch_bend_c, 6, 16383\n" \
+    "1, 0, System_exclusive, 3, 67, 18, 247\n1, 0, System_exclusive_packet, 1, 255\n" \
+    "1, 0, Sequence_number, 65534\n1, 0, Text_t, \"t\"\n1, 0, Copyright_t, \"c\"\n" \
+    "1, 0, Title_t, \"n\"\n1, 0, Instrument_name_t, \"i\"\n1, 0, Lyric_t, \"l\"\n" \
+    "1, 0, Marker_t, \"m\"\n1, 0, Cue_point_t, \"\"\n1, 0, Channel_prefix, 255\n" \
+    "1, 0, MIDI_port, 16\n1, 0, Tempo, 750000\n1, 0, SMPTE_offset, 255, 0, 1, 2, 99\n" \
+    "1, 0, Time_signature, 6, 3, 36, 8\n1, 0, Key_signature, -3, \"minor\"\n" \
+    "1, 0, Key_signature, 7, \"major\"\n1, 0, Sequencer_specific, 2, 0, 10\n" \
+    "1, 0, Unknown_meta_event, 96, 0\n1, 0, Unknown_meta_event, 8, 1, 100\n"
+#define FAR_LINE(time) "1, " time ", Program_c, 0, 0\n"
+
+/* 151 bytes of text for 39 of file, of which 25 times 39 are always enough. */
+static const struct written_case text_cases[] = {
+    {"the example of document 01", BYTES(SHORT), 151, NOFERKASH_OK, 0, BYTES(EXAMPLE_TEXT)},
+    {"the example in manner 0", BYTES(FULL), 151, NOFERKASH_OK, 0, BYTES(EXAMPLE_TEXT)},
+    {"room larger", BYTES(SHORT), 200, NOFERKASH_OK, 0, BYTES(EXAMPLE_TEXT)},
+    {"room that is always enough", BYTES(SHORT), 975, NOFERKASH_OK, 0, BYTES(EXAMPLE_TEXT)},
+    {"room one byte under that", BYTES(SHORT), 974, NOFERKASH_OK, 0, BYTES(EXAMPLE_TEXT)},
+    {"room one short", BYTES(SHORT), 150, NOFERKASH_ROOM_TOO_SMALL, 0, BYTES(EXAMPLE_TEXT)},
+    {"room of one byte", BYTES(SHORT), 1, NOFERKASH_ROOM_TOO_SMALL, 0, BYTES(EXAMPLE_TEXT)},
+    {"room of none", BYTES(SHORT), 0, NOFERKASH_ROOM_TOO_SMALL, 0, BYTES(EXAMPLE_TEXT)},
+    {"only End_track", BYTES(ONLY_END), 25 * 26, NOFERKASH_OK, 0, BYTES(TEXT(""))},
+    {"End_track at a Time of its own", BYTES(TRACK("\11", "\0\x90\x3C\x40\x83\x60\xFF\x2F\0")),
+     200, NOFERKASH_OK, 0,
+     BYTES(HEADER_LINE START_LINE
+           "1, 0, Note_on_c, 0, 60, 64\n1, 480, End_track\n0, 0, End_of_file\n")},
+    {"every kind", BYTES(TRACK("\x90", EVERY_KIND END)), 2000, NOFERKASH_OK, 0,
+     BYTES(TEXT(EVERY_KIND_LINES))},
+    {"bytes of a text that are escaped, and their neighbours",
+     BYTES(TRACK("\24", "\0\xFF\1\14\"\\\0\x1F\x20!~\x7F\x80\xA0\xA1\xFF" END)), 500,
+     NOFERKASH_OK, 0,
+     BYTES(TEXT("1, 0, Text_t, \"\"\"\\\\\\000\\037 !~\\177\\200\\240\xA1\xFF\"\n"))},
+    {"greatest Time", BYTES(TRACK("\x64", FOUR_FAR FOUR_FAR FOUR_FAR FOUR_FAR "\x0F\xFF\x2F\0")),
+     122 * 25, NOFERKASH_OK, 0,
+     BYTES(HEADER_LINE START_LINE FAR_LINE("268435455") FAR_LINE("536870910")
+           FAR_LINE("805306365") FAR_LINE("1073741820") FAR_LINE("1342177275")
+           FAR_LINE("1610612730") FAR_LINE("1879048185") FAR_LINE("2147483640")
+           FAR_LINE("2415919095") FAR_LINE("2684354550") FAR_LINE("2952790005")
+           FAR_LINE("3221225460") FAR_LINE("3489660915") FAR_LINE("3758096370")
+           FAR_LINE("4026531825") FAR_LINE("4294967280")
+           "1, 4294967295, End_track\n0, 0, End_of_file\n")},
+    {"two tracks, Times of their own",
+     BYTES(TWO_TRACKS CHUNK("\10", "\7\x90\x3C\x40" END)
+           CHUNK("\13", "\1\x91\x3C\0\2\x3C\0" "\3\xFF\x2F\0")), 300, NOFERKASH_OK, 0,
+     BYTES("0, 0, Header, 1, 2, 96\n1, 0, Start_track\n1, 7, Note_on_c, 0, 60, 64\n"
+           "1, 7, End_track\n2, 0, Start_track\n2, 1, Note_on_c, 1, 60, 0\n"
+           "2, 3, Note_on_c, 1, 60, 0\n2, 6, End_track\n0, 0, End_of_file\n")},
+
+    {"empty file", BYTES(""), 40, NOFERKASH_FILE_CUT_SHORT, 0, NOTHING},
+    {"film division", BYTES("MThd\0\0\0\6\0\0\0\1\xE7\x28" CHUNK("\4", END)), 1000,
+     NOFERKASH_BAD_HEADER, 12, NOTHING},
+    {"Tempo 0 after notes",
+     BYTES(TRACK("\23", "\0\x90\x3C\x40\0\x90\x3C\0\0\xFF\x51\3\0\0\0" END)), 60,
+     NOFERKASH_BAD_META_VALUE, 30, NOTHING},
+    {"Tempo 0 after notes, always enough room",
+     BYTES(TRACK("\23", "\0\x90\x3C\x40\0\x90\x3C\0\0\xFF\x51\3\0\0\0" END)), 25 * 41,
+     NOFERKASH_BAD_META_VALUE, 30, NOTHING},
+    {"byte after the last track", BYTES(FULL "\0"), 25 * 41, NOFERKASH_BYTES_AFTER_LAST_TRACK, 40,
+     NOTHING},
+    {"a fault, and no room", BYTES(FULL "\0"), 0, NOFERKASH_BYTES_AFTER_LAST_TRACK, 40, NOTHING}
+};
+
 static unsigned count, failed;
 
 static void try_case(const char *what, const uint8_t *file, size_t length, int number, size_t place)
@@ -149,28 +231,38 @@ static int untouched(const uint8_t *start, const uint8_t *end)
     return start == end;
 }
 
-static void try_tidy(const char *what, const uint8_t *file, size_t length, size_t room, int number,
-                     size_t place, const uint8_t *due, size_t due_length)
+/* An operation that takes a file and writes into lent room. */
+struct operation {
+    const char *name;
+    uint64_t (*run)(const uint8_t *file, size_t file_len, uint8_t *out, size_t out_len);
+};
+
+static const struct operation tidy = {"tidy", noferkash_tidy};
+static const struct operation to_text = {"file_to_text", noferkash_file_to_text};
+
+static void try_written(const struct operation *operation, const char *what, const uint8_t *file,
+                        size_t length, size_t room, int number, size_t place, const uint8_t *due,
+                        size_t due_length)
 {
-    static uint8_t lent[FENCE + LIMIT + FENCE], given[LIMIT + 1];
+    static uint8_t lent[FENCE + TEXT_LIMIT + FENCE], given[LIMIT + 1];
     uint8_t *out = lent + FENCE;
     size_t written = number == NOFERKASH_OK ? due_length : 0;
     uint64_t answer;
     int good;
 
-    memset(lent, GUARD, sizeof lent);
+    memset(lent, GUARD, FENCE + room + FENCE);
     memcpy(given, file, length);
-    answer = noferkash_tidy(given, length, out, room);
+    answer = operation->run(given, length, out, room);
     good = answer == ((uint64_t)number << 56) + ((uint64_t)place << 28) + due_length &&
            NOFERKASH_NUMBER(answer) == number && NOFERKASH_PLACE(answer) == place &&
            NOFERKASH_LENGTH(answer) == due_length && memcmp(given, file, length) == 0 &&
            memcmp(out, due, written) == 0 && untouched(lent, out) &&
-           untouched(out + written, lent + sizeof lent);
+           untouched(out + written, out + room + FENCE);
 
     count++;
     failed += !good;
-    printf("%s: tidy, room %lu: %s: %d at %lu, length %lu\n", good ? "ok" : "FAILED",
-           (unsigned long)room, what, NOFERKASH_NUMBER(answer),
+    printf("%s: %s, room %lu: %s: %d at %lu, length %lu\n", good ? "ok" : "FAILED",
+           operation->name, (unsigned long)room, what, NOFERKASH_NUMBER(answer),
            (unsigned long)NOFERKASH_PLACE(answer), (unsigned long)NOFERKASH_LENGTH(answer));
     if (!good)
         printf("    due: %d at %lu, length %lu\n", number, (unsigned long)place,
@@ -195,16 +287,23 @@ static void fill(uint8_t *file, size_t length)
     memcpy(file + length - 4, END, 4);
 }
 
-int main(void)
+static void try_cases(const struct operation *operation, const struct written_case *c,
+                      size_t cases_left)
 {
-    static uint8_t file[LIMIT + 1], tidied[LIMIT - 1];
+    for (; cases_left > 0; cases_left--, c++)
+        try_written(operation, c->what, (const uint8_t *)c->bytes, c->length, c->room, c->number,
+                    c->place, (const uint8_t *)c->due, c->due_length);
+}
+
+static void check_cases(uint8_t *file)
+{
     size_t i;
 
-    printf("noferkash %s\n", NOFERKASH_VERSION);
     for (i = 0; i < sizeof cases / sizeof cases[0]; i++)
         try_case(cases[i].what, (const uint8_t *)cases[i].bytes, cases[i].length, cases[i].number,
                  cases[i].place);
 
+    memset(file, 0, LIMIT + 1);
     try_case("all 0, the limit", file, LIMIT, NOFERKASH_BAD_HEADER, 0);
     try_case("all 0, one over the limit", file, LIMIT + 1, NOFERKASH_FILE_TOO_LONG, 0);
     fill(file, LIMIT);
@@ -215,26 +314,73 @@ int main(void)
     try_case("one byte more, the limit", file, LIMIT, NOFERKASH_BYTES_AFTER_LAST_TRACK, LIMIT - 1);
     fill(file, LIMIT + 1);
     try_case("good but one over the limit", file, LIMIT + 1, NOFERKASH_FILE_TOO_LONG, 0);
+}
 
-    for (i = 0; i < sizeof tidy_cases / sizeof tidy_cases[0]; i++) {
-        const struct tidy_case *c = &tidy_cases[i];
+static void tidy_limit_cases(uint8_t *file)
+{
+    static uint8_t tidied[LIMIT - 1];
 
-        try_tidy(c->what, (const uint8_t *)c->bytes, c->length, c->room, c->number, c->place,
-                 (const uint8_t *)c->due, c->due_length);
-    }
-    try_tidy("good but one over the limit", file, LIMIT + 1, LIMIT, NOFERKASH_FILE_TOO_LONG, 0,
-             tidied, 0);
+    fill(file, LIMIT + 1);
+    try_written(&tidy, "good but one over the limit", file, LIMIT + 1, LIMIT,
+                NOFERKASH_FILE_TOO_LONG, 0, tidied, 0);
     /* The length at byte 24 has a leading 80h, without which the track is one shorter. */
     fill(file, LIMIT);
     memcpy(tidied, file, 24);
     tidied[21]--;
     memcpy(tidied + 24, file + 25, LIMIT - 25);
-    try_tidy("good, the limit", file, LIMIT, LIMIT, NOFERKASH_OK, 0, tidied, LIMIT - 1);
-    try_tidy("good, the limit", file, LIMIT, LIMIT - 2, NOFERKASH_ROOM_TOO_SMALL, 0, tidied,
-             LIMIT - 1);
+    try_written(&tidy, "good, the limit", file, LIMIT, LIMIT, NOFERKASH_OK, 0, tidied, LIMIT - 1);
+    try_written(&tidy, "good, the limit", file, LIMIT, LIMIT - 2, NOFERKASH_ROOM_TOO_SMALL, 0,
+                tidied, LIMIT - 1);
     file[LIMIT - 1] = 1;
-    try_tidy("fault in the last byte", file, LIMIT, LIMIT, NOFERKASH_BAD_META_LENGTH, LIMIT - 4,
-             tidied, 0);
+    try_written(&tidy, "fault in the last byte", file, LIMIT, LIMIT, NOFERKASH_BAD_META_LENGTH,
+                LIMIT - 4, tidied, 0);
+}
+
+/* The text of a file made by `fill`; its length. */
+static size_t text_of_filled(char *text, size_t length)
+{
+    size_t data = length - 32, i;
+    char *at = text + sprintf(text, HEADER_LINE START_LINE "1, 0, System_exclusive, %lu",
+                              (unsigned long)data);
+
+    for (i = 0; i < data; i++, at += 3)
+        memcpy(at, ", 0", 3);
+    memcpy(at, "\n" END_LINES, sizeof "\n" END_LINES - 1);
+    return (size_t)(at - text) + sizeof "\n" END_LINES - 1;
+}
+
+static void text_limit_cases(uint8_t *file)
+{
+    static char text[3 * LIMIT + 200];
+    const uint8_t *due = (const uint8_t *)text;
+    size_t length = text_of_filled(text, LIMIT);
+
+    fill(file, LIMIT + 1);
+    try_written(&to_text, "good but one over the limit", file, LIMIT + 1, TEXT_LIMIT,
+                NOFERKASH_FILE_TOO_LONG, 0, due, 0);
+    fill(file, LIMIT);
+    try_written(&to_text, "good, the limit", file, LIMIT, length, NOFERKASH_OK, 0, due, length);
+    try_written(&to_text, "good, the limit", file, LIMIT, TEXT_LIMIT, NOFERKASH_OK, 0, due,
+                length);
+    try_written(&to_text, "good, the limit", file, LIMIT, length - 1, NOFERKASH_ROOM_TOO_SMALL, 0,
+                due, length);
+    file[LIMIT - 1] = 1;
+    try_written(&to_text, "fault in the last byte", file, LIMIT, length, NOFERKASH_BAD_META_LENGTH,
+                LIMIT - 4, due, 0);
+    try_written(&to_text, "fault in the last byte", file, LIMIT, TEXT_LIMIT,
+                NOFERKASH_BAD_META_LENGTH, LIMIT - 4, due, 0);
+}
+
+int main(void)
+{
+    static uint8_t file[LIMIT + 1];
+
+    printf("noferkash %s\n", NOFERKASH_VERSION);
+    check_cases(file);
+    try_cases(&tidy, tidy_cases, sizeof tidy_cases / sizeof tidy_cases[0]);
+    tidy_limit_cases(file);
+    try_cases(&to_text, text_cases, sizeof text_cases / sizeof text_cases[0]);
+    text_limit_cases(file);
 
     printf("%u cases, %u failed\n", count, failed);
     return failed != 0;

@@ -6,6 +6,12 @@
 
 extern "C" {
     fn noferkash_check(file: *const u8, file_len: usize) -> u64;
+    fn noferkash_file_to_text(
+        file: *const u8,
+        file_len: usize,
+        out: *mut u8,
+        out_len: usize,
+    ) -> u64;
     fn noferkash_tidy(file: *const u8, file_len: usize, out: *mut u8, out_len: usize) -> u64;
 }
 
@@ -15,8 +21,14 @@ pub fn check(file: &mut [u8]) -> u64 {
     unsafe { noferkash_check(file.as_mut_ptr(), file.len()) }
 }
 
+/// The packed answer; on success `room` begins with the text.
+pub fn file_to_text(file: &mut [u8], room: &mut [u8]) -> u64 {
+    // Safe as above; two slices lent to be written do not overlap.
+    unsafe { noferkash_file_to_text(file.as_mut_ptr(), file.len(), room.as_mut_ptr(), room.len()) }
+}
+
 /// The packed answer; on success `room` begins with the tidied file.
 pub fn tidy(file: &mut [u8], room: &mut [u8]) -> u64 {
-    // Safe as above; two slices lent to be written do not overlap.
+    // Safe as above.
     unsafe { noferkash_tidy(file.as_mut_ptr(), file.len(), room.as_mut_ptr(), room.len()) }
 }

@@ -15,6 +15,9 @@ pub struct Operation {
     pub second: fn(input: &[u8], manner: u32, room: &mut [u8]) -> Answer,
     /// Answers packed, so that a place or length out of bounds shows too.
     pub archive: fn(input: &mut [u8], manner: u32, room: &mut [u8]) -> u64,
+    /// So many bytes of room for each byte of input are always enough, and a
+    /// program may go another way there; 0 if no such number is known.
+    pub enough: usize,
 }
 
 /// What the two did alike.
@@ -35,14 +38,21 @@ pub enum Room {
     Smaller,
     /// Nothing was to be written, whatever the room.
     Unused,
+    /// As much as is always enough, whether or not something was to be written.
+    Enough,
+    /// One byte less than that.
+    UnderEnough,
 }
 
 impl Room {
     /// Those that an operation which writes must be tried in.
     pub const DUE: [Room; 4] = [Room::Exact, Room::OneShort, Room::Larger, Room::Zero];
 
-    fn of(room: usize, needed: usize) -> Room {
+    /// `enough` is 0 if no size is known that is always enough.
+    fn of(room: usize, needed: usize, enough: usize) -> Room {
         match room {
+            _ if enough > 0 && room == enough => Room::Enough,
+            _ if enough > 0 && room + 1 == enough => Room::UnderEnough,
             _ if needed == 0 => Room::Unused,
             0 => Room::Zero,
             _ if room == needed => Room::Exact,
@@ -70,7 +80,9 @@ impl Operation {
         let rng = &mut Rng::new(seed ^ 1 << 63);
         let manner = manner(rng);
         let asked = (self.second)(input, manner, &mut []);
+        let enough = self.enough * input.len();
         let room = match asked.number {
+            _ if enough > 0 && rng.one_in(3) => enough - rng.index(2),
             0 | 14 => room(rng, asked.length),
             // Refused input gets room too, in which a writer in haste would show.
             _ => room(rng, input.len().min(REFUSED_ROOM)),
@@ -91,7 +103,7 @@ impl Operation {
             "room or the bytes round it"
         } else {
             let number = Answer::unpacked(second).number;
-            return Ok(Met { number, room: Room::of(room, asked.length) });
+            return Ok(Met { number, room: Room::of(room, asked.length, enough) });
         };
         Err(Difference { what, second, archive, manner, room })
     }
@@ -137,10 +149,13 @@ impl Fenced {
 
 #[test]
 fn rooms_have_their_kind() {
-    use Room::{Exact, Larger, OneShort, Smaller, Unused, Zero};
-    let kinds = [0, 1, 24, 25, 26, 27, 90].map(|room| Room::of(room, 26));
+    use Room::{Enough, Exact, Larger, OneShort, Smaller, UnderEnough, Unused, Zero};
+    let kinds = [0, 1, 24, 25, 26, 27, 90].map(|room| Room::of(room, 26, 0));
     assert_eq!(kinds, [Zero, Smaller, Smaller, OneShort, Exact, Larger, Larger]);
-    assert_eq!([0, 9].map(|room| Room::of(room, 0)), [Unused; 2]);
+    assert_eq!([0, 9].map(|room| Room::of(room, 0, 0)), [Unused; 2]);
+    let kinds = [26, 98, 99, 100, 101].map(|room| Room::of(room, 26, 100));
+    assert_eq!(kinds, [Exact, Larger, UnderEnough, Enough, Larger]);
+    assert_eq!([98, 99, 100].map(|room| Room::of(room, 0, 100)), [Unused, UnderEnough, Enough]);
 }
 
 #[test]

@@ -6,6 +6,8 @@
 #[cfg(feature = "archive")]
 pub mod archive;
 pub mod compare;
+pub mod coverage;
+pub mod fast_text;
 pub mod generate;
 pub mod number;
 pub mod operations;

@@ -2,12 +2,13 @@
 
 use second::compare::{Difference, Met, Operation, Room};
 use second::generate::{file_case, text_case};
-use second::operations::{text_to_file, tidy};
+use second::operations::{file_to_text, text_to_file, tidy};
 
 const GOOD: Operation = Operation {
     name: "tidy",
     second: |file, _, room| tidy(file, room),
     archive: |file, _, room| tidy(file, room).packed(),
+    enough: 0,
 };
 
 type Archive = fn(&mut [u8], u32, &mut [u8]) -> u64;
@@ -76,6 +77,7 @@ fn manner_and_room_reach_both() {
         name: "text_to_file",
         second: text_to_file,
         archive: |text, manner, room| text_to_file(text, manner, room).packed(),
+        enough: 0,
     };
     let met: Vec<Met> =
         (0..500).map(|seed| operation.compare(seed, &text_case(seed)).unwrap()).collect();
@@ -85,4 +87,39 @@ fn manner_and_room_reach_both() {
     for room in Room::DUE {
         assert!(met.iter().any(|met| met.room == room), "{room:?} never met");
     }
+}
+
+/// A program that goes another way in a room that is always enough is compared
+/// on both: on files that are written and on files that are refused.
+#[test]
+fn rooms_that_are_always_enough_are_met() {
+    const TEXT: Operation = Operation {
+        name: "file_to_text",
+        second: |file, _, room| file_to_text(file, room),
+        archive: |file, _, room| file_to_text(file, room).packed(),
+        enough: 25,
+    };
+    let met: Vec<Met> =
+        (0..500).map(|seed| TEXT.compare(seed, &file_case(seed)).unwrap()).collect();
+    for room in Room::DUE.into_iter().chain([Room::Enough, Room::UnderEnough]) {
+        assert!(met.iter().any(|met| met.room == room), "{room:?} never met");
+    }
+    for room in [Room::Enough, Room::UnderEnough] {
+        let of_room = || met.iter().filter(|met| met.room == room);
+        assert!(of_room().any(|met| met.number == 0), "{room:?} never written in");
+        assert!(of_room().any(|met| met.number != 0), "{room:?} never refused in");
+        assert!(of_room().all(|met| met.number != 14), "{room:?} too small");
+    }
+    let hasty = Operation {
+        archive: |file, _, room| {
+            let answer = file_to_text(file, room);
+            if answer.number != 0 && 25 * file.len() <= room.len() {
+                room.iter_mut().take(1).for_each(|byte| *byte = 0);
+            }
+            answer.packed()
+        },
+        ..TEXT
+    };
+    let differ = (0..500).filter(|seed| hasty.compare(*seed, &file_case(*seed)).is_err());
+    assert!(differ.count() > 0, "a refusal that writes in such a room is not seen");
 }
