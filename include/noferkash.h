@@ -85,6 +85,21 @@ uint64_t noferkash_check(const uint8_t *file, size_t file_len);
  *   answer gives. So out_len 0 asks for it. */
 uint64_t noferkash_file_to_text(const uint8_t *file, size_t file_len, uint8_t *out, size_t out_len);
 
+/* Writes the file of the text's piece into `out`. Manner 0 writes every status
+ * byte, manner 1 leaves one out wherever permitted; every variable-length number
+ * takes the fewest bytes. NOFERKASH_OK and the length written; bytes of `out`
+ * past it stay. The text of an accepted file comes back as the file of the same
+ * piece, and a file made here is accepted and has the text's piece.
+ *
+ * Refusals, in this order; each leaves all of `out` as it was:
+ * - NOFERKASH_BAD_MANNER for every manner but 0 and 1;
+ * - NOFERKASH_TEXT_TOO_LONG over 33,554,432 bytes;
+ * - numbers 22 to 28, the first in the order of the lines, with its line;
+ * - NOFERKASH_WRITTEN_TOO_LONG when the file would pass 1,048,576 bytes;
+ * - NOFERKASH_ROOM_TOO_SMALL when out_len is under the length needed, which the
+ *   answer gives. So out_len 0 asks for it. */
+uint64_t noferkash_text_to_file(const uint8_t *text, size_t text_len, uint32_t manner, uint8_t *out, size_t out_len);
+
 /* Writes the file's piece again into `out` in manner 1: a status byte left out
  * wherever permitted, every variable-length number in the fewest bytes.
  * NOFERKASH_OK and the length written; bytes of `out` past it stay. A tidied

@@ -24,7 +24,7 @@ unfolding check
 check-fair m true n p x h k = k refl
 check-fair m false n p x h k = h
 
-pick-fair : {A : Type 0} (m : ℕ) (t : Bool) (a b : Outcome A) → Fair m a → Fair m b → Fair m (pick t a b)
+pub pick-fair : {A : Type 0} (m : ℕ) (t : Bool) (a b : Outcome A) → Fair m a → Fair m b → Fair m (pick t a b)
 unfolding pick
 pick-fair m true a b h k = h
 pick-fair m false a b h k = k

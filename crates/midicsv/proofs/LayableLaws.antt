@@ -99,7 +99,7 @@ wide-spelled force (channel2 s a b) h = λ z. absurd (false≢true z)
 wide-spelled force (exclusive s d) h = omega arith
 wide-spelled force (meta t d) h = omega arith
 
-one-permitted : (m : Manner) (prev force : ℕ) (e : Event) → Layable prev e → Permitted prev force e (spellEvent m prev force e)
+pub one-permitted : (m : Manner) (prev force : ℕ) (e : Event) → Layable prev e → Permitted prev force e (spellEvent m prev force e)
 one-permitted m prev force e l =
     event-permitted m prev force e (record { delta = w4; rest = wideRest (frame (e .kind)) })
     (record { delta = omega (arith, l .step); rest = wide-spelled force (frame (e .kind)) (l .size) })

@@ -25,3 +25,4 @@ pub mod KindAcceptedLaws
 pub mod RecordAcceptedLaws
 pub mod StateLaws
 pub mod AcceptedLaws
+pub mod RefusedLaws

@@ -19,6 +19,7 @@ use Rattle.smf.specs.Answer.{success, roomNeeded, verdict}
 use Rattle.smf.specs.declared.Answer.{Answer}
 use Rattle.smf.proofs.FileLaws.{piece-sound}
 use Rattle.smf.proofs.RefusalLaws.{place-small}
+use Rattle.smf.proofs.WritingLaws.{Fits28}
 use Rattle.smf.proofs.AcceptedLaws.{AcceptedFile}
 use Rattle.midicsv.specs.Text.{textOf}
 use Rattle.midicsv.proofs.BoundLaws.{text-bound}
@@ -65,10 +66,6 @@ module _ (s : List ℕ) (there : AcceptedFile s) where
         put ∙ ap (λ p. textOf p ++ drop n old) (there .same) ∙ rw (there .read, ← same-size, le-leb n (length old) h) refl
 
 -- ---- the answers fit the exported number
-
-pub record Fits28 (a : Answer) : Type 0 where
-  pub place : a .place < 268435456
-  pub length : a .length < 268435456
 
 text-answer-fits : (room n : ℕ) → n < 268435456 → Fits28 (pick (leb n room) (success n) (roomNeeded n))
 unfolding pick

@@ -4,6 +4,7 @@ ghost use Prim.Native.Nat.{_<_};
 ghost use Rattle.smf.specs.Reader.{readFile};
 ghost use lib.ListN.{length};
 ghost use Rattle.smf.specs.Answer.{verdict};
+ghost use Rattle.midicsv_read.specs.ToFile.{fileAnswer, fileLeaves};
 ghost use Rattle.midicsv_write.specs.ToText.{textAnswer, textLeaves};
 ghost use Rattle.smf_write.specs.Tidy.{tidyAnswer, tidyLeaves};
 ghost use Rattle.noferkash.specs.Packed.{packed};
@@ -31,6 +32,13 @@ pub extern "C" fn noferkash_file_to_text(file: &[u8], out: &mut [u8]) -> u64
     ensures { λ r. ⌜ r ≡ packed (textAnswer (length (now (out .entry))) (readFile (now (file .entry)))) ⌝ ∗ ⌜ now (out .exit) ≡ textLeaves (readFile (now (file .entry))) (now (out .entry)) ⌝ }
 {
     pack(midicsv_write::to_text::file_to_text(file, out))
+}
+
+#[no_mangle]
+pub extern "C" fn noferkash_text_to_file(text: &[u8], manner: u32, out: &mut [u8]) -> u64
+    ensures { λ r. ⌜ r ≡ packed (fileAnswer (now (text .entry)) manner (length (now (out .entry)))) ⌝ ∗ ⌜ now (out .exit) ≡ fileLeaves (now (text .entry)) manner (now (out .entry)) ⌝ }
+{
+    pack(midicsv_read::to_file::text_to_file(text, manner, out))
 }
 
 #[no_mangle]

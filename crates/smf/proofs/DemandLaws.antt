@@ -21,16 +21,18 @@ use Rattle.smf.proofs.FileLaws.{piece-read, piece-sound}
 use Rattle.smf.proofs.RefusalLaws.{file-fair}
 use Rattle.smf.proofs.PieceReadLaws.{piece-is}
 
+-- a layout that is not too long is read as its piece
+pub laid-read : (f : List ℕ) (p : Piece) → LaidOut f p → length f ≤ fileLimit → readFile f ≡ ok p []
+unfolding readFile
+laid-read f p l k = check-eq 1 0 _ (le-leb (length f) fileLimit k) ∙ ap readPiece (sym (l .bytes)) ∙ piece-read p (l .spelling) (l .has)
+
 -- a file is accepted with the piece p exactly where it is the layout of p with some permitted spelling, and not too long
 pub demand-3 : (f : List ℕ) → Bytes f → (p : Piece) → (readFile f ≡ ok p []) ↔ (LaidOut f p × (length f ≤ fileLimit))
 unfolding readFile
-demand-3 f bs p = (there, back)
+demand-3 f bs p = (there, λ (l, k). laid-read f p l k)
   where
     there : check (leb (length f) fileLimit) 1 0 (readPiece f) ≡ ok p [] → LaidOut f p × (length f ≤ fileLimit)
     there e = let (c, q) = check-ok _ 1 0 _ p [] e in (piece-sound f p [] bs q .laid, leb-true (length f) fileLimit c)
-
-    back : LaidOut f p × (length f ≤ fileLimit) → check (leb (length f) fileLimit) 1 0 (readPiece f) ≡ ok p []
-    back (l, k) = check-eq 1 0 _ (le-leb (length f) fileLimit k) ∙ ap readPiece (sym (l .bytes)) ∙ piece-read p (l .spelling) (l .has)
 
 -- "no file of any length is the layout of two pieces"
 pub one-piece : (f : List ℕ) (p q : Piece) → LaidOut f p → LaidOut f q → p ≡ q

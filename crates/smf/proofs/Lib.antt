@@ -13,3 +13,4 @@ pub mod PieceReadLaws
 pub mod ListLaws
 pub mod TurnLaws
 pub mod AcceptedLaws
+pub mod WritingLaws

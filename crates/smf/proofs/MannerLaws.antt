@@ -1,9 +1,10 @@
 -- The two manners: each spelling is permitted where any is, so its file is a layout and reads back.
-use mathlib.Core.Path.{_≡_, refl}
+use mathlib.Core.Path.{_≡_, refl, ap}
 use Prim.Native.Nat.{ℕ, _+_, _*_, _≤_}
-use mathlib.Core.List.{List, [], _∷_}
+use mathlib.Core.List.{List, [], _∷_, _++_}
 use native.Mathlib.Omega.{arith}
 use lib.ListN.{length, length-append}
+use Rattle.event.specs.Bytes.{bigEndian}
 use Rattle.event.specs.Event.{Event}
 use Rattle.event.specs.Frame.{frame, after, noStatus}
 use Rattle.event.specs.Spelling.{Spelling, Permitted}
@@ -12,12 +13,12 @@ use Rattle.event.proofs.BytesLaws.{length-bigEndian}
 use Rattle.event.proofs.MannerLaws.{event-permitted, short-event, manner-event}
 use Rattle.smf.specs.Piece.{Piece, LawfulPiece}
 use Rattle.smf.specs.Spelling.{PieceSpelling, PermittedEvents, PermittedTracks, PermittedPiece}
-use Rattle.smf.specs.Layout.{layEvents, layTrack, layTracks, ShortTracks, LaidOut}
+use Rattle.smf.specs.Layout.{trackTag, layEvents, layTrack, layTracks, layPiece, ShortTracks, LaidOut}
 use Rattle.event.specs.Manner.{Manner, short, spellEvent}
 use Rattle.event.specs.Layout.{layEvent}
 use Rattle.smf.specs.Manner.{spellEvents, spellTracks, spelling, fileOf}
 use Rattle.smf.specs.Reader.{readPiece}
-use Rattle.smf.proofs.FileLaws.{piece-read}
+use Rattle.smf.proofs.FileLaws.{piece-read, header-size}
 
 pub events-permitted : (m : Manner) (prev force : ℕ) (es : List Event) (ss : List Spelling) → PermittedEvents prev force es ss
     → PermittedEvents prev force es (spellEvents m prev force es)
@@ -101,5 +102,30 @@ short-laid f p l =
             permitted = manner-permitted short p (l .spelling) (l .has .permitted);
             short = short-short (p .tracks) (l .spelling .tracks) (l .has .permitted) (l .has .short);
           };
+      bytes = refl;
+    }
+
+-- tracks that take few bytes together are each short
+few-short : (ts : List (List Event)) (ss : List (List Spelling)) → PermittedTracks ts ss → length (layTracks ts ss) ≤ 4294967295 → ShortTracks ts ss
+unfolding PermittedTracks ShortTracks layTracks layTrack
+few-short [] ss p h = tt
+few-short (t ∷ ts) [] p h = absurd p
+few-short (t ∷ ts) (s ∷ ss) p h =
+    let size = length-append (bigEndian 4 trackTag ++ (bigEndian 4 (length (layEvents 0 t s)) ++ layEvents 0 t s)) (layTracks ts ss) in
+    let track = length-append (bigEndian 4 trackTag) (bigEndian 4 (length (layEvents 0 t s)) ++ layEvents 0 t s) in
+    let events = length-append (bigEndian 4 (length (layEvents 0 t s))) (layEvents 0 t s) in
+    (omega (arith, size, track, events, h), few-short ts ss (p .1) (omega (arith, size, h)))
+
+-- in either manner the piece of a file of permitted length has a layout
+pub manner-laid : (m : Manner) (f : List ℕ) (p : Piece) → LaidOut f p → length f ≤ 1048576 → LaidOut (fileOf m p) p
+unfolding fileOf spelling PermittedPiece layPiece
+manner-laid m f p l h =
+    let tracks = manner-tracks m (p .tracks) (l .spelling .tracks) (l .has .permitted) in
+    let whole = ap length (l .bytes) in
+    let size = header-size (p .format) (length (p .tracks)) (p .division) (layTracks (p .tracks) (l .spelling .tracks)) in
+    let permitted = manner-permitted m p (l .spelling) (l .has .permitted) in
+    record {
+      spelling = spelling m p;
+      has = record { lawful = l .has .lawful; permitted = permitted; short = few-short (p .tracks) (spellTracks m (p .tracks)) permitted (omega (arith, tracks, whole, size, h)) };
       bytes = refl;
     }

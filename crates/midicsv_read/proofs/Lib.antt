@@ -1,0 +1,14 @@
+pub mod QuotedLaws
+pub mod DataLaws
+pub mod NumberedLaws
+pub mod RowEventLaws
+pub mod PatchLaws
+pub mod FrameLaws
+pub mod CutLaws
+pub mod BytesSoFarLaws
+pub mod TakeLaws
+pub mod TakeEventLaws
+pub mod TakeLineLaws
+pub mod PassLaws
+pub mod ToFileLaws
+pub mod AnswerLaws

@@ -1,0 +1,10 @@
+mod TableLaws
+mod ColumnAtLaws
+mod ColumnLaws
+mod WordLaws
+mod FieldInLaws
+mod FiveLaws
+mod BodyLaws
+mod SizeLaws
+mod LineLaws
+mod NameLaws

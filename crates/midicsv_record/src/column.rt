@@ -1,0 +1,177 @@
+// A field beside its column, and the columns of a record.
+ghost use mathlib.Core.Path.{_≡_};
+ghost use mathlib.Core.Bool.{_&&_};
+ghost use lib.Dec.{leb};
+ghost use Rattle.event.specs.Meta.{kindOf};
+ghost use Prim.Native.Nat.{_<_};
+ghost use lib.ListN.{drop, getD};
+ghost use Rattle.midicsv.specs.Field.{num, quoted};
+ghost use Rattle.midicsv.specs.ReadField.{plain};
+ghost use Rattle.midicsv.specs.Table.{range, key, mode, freeType};
+ghost use Rattle.midicsv.specs.ReadRecord.{sizeOf, isFree, readColumn};
+ghost use Rattle.midicsv_scan.specs.Unquoted.{unquoted};
+ghost use Rattle.midicsv_record.specs.Table.{columnsAt, columnAs, readFirst};
+ghost use Rattle.midicsv_record.specs.Column.{fieldIn, valueAs, Reads, laterIn, Ready, Fit};
+use super::ColumnKind;
+use super::ColumnStep;
+use super::ColumnsStep;
+use super::table::column_at;
+use super::text::is_word;
+use midicsv_scan::FieldStep;
+use midicsv_scan::fields::field;
+
+// A number without a minus.
+pub fn number_of(f: FieldStep) -> ColumnStep
+    ensures { λ r. ⌜ Reads sizeOf f r ⌝ }
+{
+    match f {
+        FieldStep::Number { value, .. } => ColumnStep::Value(value),
+        FieldStep::Minus { .. } => ColumnStep::OutOfRange,
+        FieldStep::Name { .. } => ColumnStep::OutOfRange,
+        FieldStep::Quoted { .. } => ColumnStep::OutOfRange,
+        FieldStep::BadField => ColumnStep::OutOfRange,
+    }
+}
+
+// A number from lo to hi.
+pub fn number_in(f: FieldStep, lo: u32, hi: u32) -> ColumnStep
+    ensures { λ r. ⌜ Reads (readColumn (range lo hi)) f r ⌝ }
+{
+    let ColumnStep::Value(value) = number_of(f) else {
+        return ColumnStep::OutOfRange;
+    };
+    if value < lo {
+        return ColumnStep::OutOfRange;
+    }
+    if hi < value {
+        return ColumnStep::OutOfRange;
+    }
+    ColumnStep::Value(value)
+}
+
+// A key -7..7, as its byte in the file.
+fn key_of(f: FieldStep) -> ColumnStep
+    ensures { λ r. ⌜ Reads (readColumn key) f r ⌝ }
+{
+    match f {
+        FieldStep::Number { value, .. } => {
+            if 7 < value {
+                return ColumnStep::OutOfRange;
+            }
+            ColumnStep::Value(value)
+        }
+        FieldStep::Minus { value, .. } => {
+            if 7 < value {
+                return ColumnStep::OutOfRange;
+            }
+            ColumnStep::Value(256 - value)
+        }
+        FieldStep::Name { .. } => ColumnStep::OutOfRange,
+        FieldStep::Quoted { .. } => ColumnStep::OutOfRange,
+        FieldStep::BadField => ColumnStep::OutOfRange,
+    }
+}
+
+// "major" (0) or "minor" (1).
+fn mode_at(line: &[u8], start: usize) -> ColumnStep
+    ensures { λ r. ⌜ valueAs r ≡ readColumn mode (quoted (unquoted (drop start (now (line .entry))) plain)) ⌝ }
+{
+    if is_word(line, start, b"major") {
+        return ColumnStep::Value(0);
+    }
+    if is_word(line, start, b"minor") {
+        return ColumnStep::Value(1);
+    }
+    ColumnStep::OutOfRange
+}
+
+// A mode, which is a quoted text.
+fn mode_of(line: &[u8], f: FieldStep) -> ColumnStep
+    ensures { λ r. ⌜ valueAs r ≡ readColumn mode (fieldIn (now (line .entry)) f) ⌝ }
+{
+    match f {
+        FieldStep::Number { .. } => ColumnStep::OutOfRange,
+        FieldStep::Minus { .. } => ColumnStep::OutOfRange,
+        FieldStep::Name { .. } => ColumnStep::OutOfRange,
+        FieldStep::Quoted { start, .. } => mode_at(line, start),
+        FieldStep::BadField => ColumnStep::OutOfRange,
+    }
+}
+
+// Whether a meta type up to 127 has no name of its own.
+fn is_free(t: u32) -> bool
+    ensures { λ r. ⌜ r ≡ (leb t 127 && isFree (kindOf t)) ⌝ }
+{
+    match t {
+        0..=7 => false,
+        8..=0x1F => true,
+        0x20..=0x21 => false,
+        0x22..=0x2E => true,
+        0x2F => false,
+        0x30..=0x50 => true,
+        0x51 => false,
+        0x52..=0x53 => true,
+        0x54 => false,
+        0x55..=0x57 => true,
+        0x58..=0x59 => false,
+        0x5A..=0x7E => true,
+        0x7F..=0xFFFF_FFFF => false,
+    }
+}
+
+// A meta type without a name of its own.
+fn free_type(f: FieldStep) -> ColumnStep
+    ensures { λ r. ⌜ Reads (readColumn freeType) f r ⌝ }
+{
+    let ColumnStep::Value(value) = number_of(f) else {
+        return ColumnStep::OutOfRange;
+    };
+    if is_free(value) {
+        return ColumnStep::Value(value);
+    }
+    ColumnStep::OutOfRange
+}
+
+// The number of a field, by its column.
+pub fn value_in(line: &[u8], f: FieldStep, column: ColumnKind) -> ColumnStep
+    ensures { λ r. ⌜ valueAs r ≡ readFirst (columnAs column) (fieldIn (now (line .entry)) f) ⌝ }
+{
+    match column {
+        ColumnKind::Range { lo, hi } => number_in(f, lo, hi),
+        ColumnKind::Key => key_of(f),
+        ColumnKind::Mode => mode_of(line, f),
+        ColumnKind::FreeType => free_type(f),
+        ColumnKind::NoColumn => ColumnStep::Value(0),
+    }
+}
+
+// The number of the column so numbered from 0; 0 past the last.
+fn column(line: &[u8], name: u8, i: usize) -> ColumnStep
+    requires { ⌜ Ready (now line) name ⌝ ∗ ⌜ i < 5 ⌝ }
+    ensures { λ r. ⌜ valueAs r ≡ readFirst (drop i (columnsAt name)) (getD (laterIn (now (line .entry))) i (num 0)) ⌝ }
+{
+    value_in(line, field(line, 3 + i), column_at(name, i))
+}
+
+// The numbers of all columns; no record has more than five.
+pub fn columns_of(line: &[u8], name: u8) -> ColumnsStep
+    requires { ⌜ Ready (now line) name ⌝ }
+    ensures { λ r. ⌜ Fit (columnsAt name) (laterIn (now (line .entry))) r ⌝ }
+{
+    let ColumnStep::Value(a) = column(line, name, 0) else {
+        return ColumnsStep::Misfit;
+    };
+    let ColumnStep::Value(b) = column(line, name, 1) else {
+        return ColumnsStep::Misfit;
+    };
+    let ColumnStep::Value(c) = column(line, name, 2) else {
+        return ColumnsStep::Misfit;
+    };
+    let ColumnStep::Value(d) = column(line, name, 3) else {
+        return ColumnsStep::Misfit;
+    };
+    let ColumnStep::Value(e) = column(line, name, 4) else {
+        return ColumnsStep::Misfit;
+    };
+    ColumnsStep::Five { a, b, c, d, e }
+}

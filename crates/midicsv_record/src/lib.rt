@@ -1,0 +1,91 @@
+// A line's record: its name, its numbers, and where its Text or Data stand.
+pub mod name; // name.rt: the names of records
+pub mod table; // table.rt: the columns and the tail of each record
+pub mod text; // text.rt: a quoted text beside a word
+pub mod column; // column.rt: fields beside their columns
+pub mod body; // body.rt: where Text and Data stand
+pub mod line; // line.rt: the record of a line
+
+// A record: its name by its number in the list of names, Track, Time, up to five numbers (0 past
+// those that the name has), and where in the line its Text begins, after the quote, or its Data;
+// len is the number of the Data.
+pub struct Row {
+    pub name: u8,
+    pub track: u32,
+    pub time: u32,
+    pub a: u32,
+    pub b: u32,
+    pub c: u32,
+    pub d: u32,
+    pub e: u32,
+    pub start: usize,
+    pub len: usize,
+}
+
+pub enum LineStep {
+    Wrong { number: u8 },
+    Parsed(Row),
+}
+
+// A column of the table; NoColumn past the last of a name.
+pub enum ColumnKind {
+    Range { lo: u32, hi: u32 },
+    Key,
+    Mode,
+    FreeType,
+    NoColumn,
+}
+
+// What follows the columns: nothing, a Text, or Length and Data.
+pub enum TailKind {
+    NoTail,
+    OneText,
+    Sized,
+}
+
+// What has just been passed in a quoted text: nothing special, a quote, a backslash, or one or two
+// octal digits.
+pub enum Passed {
+    Plain,
+    Quote,
+    Slash,
+    One(u32),
+    Two(u32),
+}
+
+// What a character of a quoted text gives.
+pub enum TextStep {
+    Nothing(Passed),
+    Byte(u8, Passed),
+    Closed,
+}
+
+// The number of a field, or 25.
+pub enum ColumnStep {
+    Value(u32),
+    OutOfRange,
+}
+
+// The numbers of a record's columns, 0 past the last; or 25.
+pub enum ColumnsStep {
+    Five {
+        a: u32,
+        b: u32,
+        c: u32,
+        d: u32,
+        e: u32,
+    },
+    Misfit,
+}
+
+// The Length (0 where a record has none) of a line with the right number of fields; or 24 or 25.
+pub enum SizeStep {
+    Fits(usize),
+    Off(u8),
+}
+
+// Where the Text or the Data begin, or 25.
+pub enum TailStep {
+    Start(usize),
+    Unfit,
+}
