@@ -37,7 +37,7 @@ module _ (v : ℕ) where
       let a : v / 2097152 ≡ v / 2097152 % 128 = omega arith in
       rw (le-ltb _ _ e, le-ltb _ _ f, le-ltb _ _ g) (ap (λ x. (128 + x) ∷ (128 + v / 16384 % 128) ∷ (128 + v / 128 % 128) ∷ v % 128 ∷ []) a)
 
-width-length : (w : Width) (v : ℕ) → length (vlq w v) ≤ 4
+pub width-length : (w : Width) (v : ℕ) → length (vlq w v) ≤ 4
 unfolding vlq
 width-length w1 v = omega arith
 width-length w2 v = omega arith

@@ -1,11 +1,11 @@
 -- What is written in a row is written as one.
 use mathlib.Core.Path.{_≡_, refl, sym, ap, subst, _∙_}
 use mathlib.Core.List.{List, [], _∷_, _++_, append-nil}
-use Prim.Native.Nat.{ℕ, suc, _+_}
+use Prim.Native.Nat.{ℕ, suc, _+_, _≤_}
 use native.Mathlib.Nat.{add-zero}
 use native.Mathlib.Omega.{arith}
-use lib.ListN.{length, set, length-append}
-use lib.Seq.{sets}
+use lib.ListN.{length, drop, set, length-append}
+use lib.Seq.{sets, sets-eq}
 use Rattle.event_write.specs.Written.{Written, overwrite}
 
 pub sets-append : (xs ys l : List ℕ) (i : ℕ) → sets (sets l i xs) (i + length xs) ys ≡ sets l i (xs ++ ys)
@@ -13,6 +13,12 @@ sets-append [] ys l i = rw add-zero
 sets-append (a ∷ xs) ys l i =
     let e : i + suc (length xs) ≡ suc i + length xs = omega arith in
     rw e (sets-append xs ys (set l i a) (suc i))
+
+-- what is put at the front of a room, all of it
+pub put-whole : (xs old : List ℕ) (n : ℕ) → n ≡ length xs → n ≤ length old → sets old 0 xs ≡ xs ++ drop n old
+put-whole xs old n size g =
+    let past : 0 + length xs ≡ n = omega (arith, size) in
+    sets-eq xs old 0 (omega (arith, size)) ∙ ap (λ z. xs ++ drop z old) past
 
 -- one thing after the other
 pub then : {old mid new xs ys : List ℕ} {at m next : ℕ} → Written old at xs mid m → Written mid m ys new next → Written old at (xs ++ ys) new next

@@ -14,16 +14,15 @@ use Rattle.event.proofs.ChoiceLaws.{by-test}
 use Rattle.event.proofs.OutcomeLaws.{not-ok, ok-same}
 use Rattle.smf.specs.Piece.{Piece, LawfulPiece}
 use Rattle.smf.specs.Spelling.{PermittedPiece}
-use Rattle.smf.specs.Layout.{layPiece, LaidOut}
+use Rattle.smf.specs.Layout.{LaidOut}
 use Rattle.smf.specs.Manner.{spellTracks, spelling, fileOf}
-use Rattle.smf.proofs.FileLaws.{header-size}
 use Rattle.midicsv.specs.Result.{Result, good, bad}
 use Rattle.midicsv.specs.ReadRecord.{readLine}
 use Rattle.midicsv.specs.Lines.{onto, linesOf, trimmed, passedOver}
 use Rattle.midicsv.specs.Order.{State, first, between, inside, finished, step}
 use Rattle.midicsv.specs.PieceOfText.{skipped, told, framed, tellLine, stepTold, advance, ended, runLines, pieceTold, pieceOfText, textLimit}
 use Rattle.midicsv.proofs.ResultLaws.{good-same, next-good}
-use Rattle.midicsv.proofs.LayableLaws.{tracks-permitted, tracks-most, tracks-short}
+use Rattle.midicsv.proofs.LayableLaws.{tracks-permitted, tracks-short}
 use Rattle.midicsv.proofs.RecordAcceptedLaws.{line-given}
 use Rattle.midicsv.proofs.StateLaws.{PieceOk, StateOk, state-more, step-ok}
 
@@ -134,7 +133,3 @@ module _ (s : List ℕ) (p : Piece) (r : List ℕ) (b : Bytes s) (h : length s �
             };
         bytes = refl;
       }
-
-  pub accepted-size : (m : Manner) → length (fileOf m p) ≤ 16 * length s
-  unfolding fileOf layPiece spelling
-  accepted-size m = rw (header-size (p .format) _ (p .division) _) (omega (arith, accepted .size, lines-weight s, tracks-most (p .tracks) (spellTracks m (p .tracks))))

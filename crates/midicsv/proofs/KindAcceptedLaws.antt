@@ -1,16 +1,18 @@
 -- The kind of an accepted record, of values in their ranges, fits.
-use mathlib.Core.Path.{_≡_}
+use mathlib.Core.Path.{_≡_, refl}
 use Prim.Native.Nat.{ℕ, zero, suc, _+_, _-_, _<_, _≤_}
 use mathlib.Core.List.{List, [], _∷_}
 use mathlib.Core.Logic.{_⊎_, inl, inr}
 use native.Mathlib.Omega.{arith}
 use lib.ListN.{length, getD}
-use borrow.Author.Tests.{le-leb, lt-leb}
+use lib.Dec.{leb}
+use borrow.Author.Tests.{le-leb, lt-leb, leb-false}
 use Rattle.event.specs.Bytes.{bigEndian, bytesOnto}
+use Rattle.event.specs.Choice.{pick}
 use Rattle.event.specs.Event.{sharps, flats, KeyFits, Fits}
-use Rattle.event.specs.Frame.{frame}
+use Rattle.event.specs.Frame.{keyByte, frame}
 use Rattle.event.specs.Reader.{keyOf}
-use Rattle.event.proofs.ChoiceLaws.{pick-cases, pick-true, pick-false}
+use Rattle.event.proofs.ChoiceLaws.{pick-cases, pick-true, pick-false, by-test}
 use Rattle.midicsv.specs.Field.{Field, num, minus, name, quoted}
 use Rattle.midicsv.specs.Table.{EventName, note-off, note-on, poly-aftertouch, control-change, program-change, channel-aftertouch, pitch-bend, system-exclusive, system-exclusive-packet, sequence-number, words, channel-prefix, midi-port, end-track, set-tempo, smpte-offset, time-signature, key-signature, sequencer-specific, unknown-meta, RecordName, event, eventSpelled, spelled, Column, range, eventShape, shape}
 use Rattle.midicsv.specs.Record.{Values}
@@ -34,6 +36,11 @@ key-fits : (b : ℕ) → (b < 8) ⊎ ((249 ≤ b) × (b < 256)) → KeyFits (key
 unfolding KeyFits keyOf
 key-fits b (inl h) = rw (pick-true (sharps b) (flats (256 - b)) (le-leb b 7 (omega arith))) (omega arith)
 key-fits b (inr h) = rw (pick-false (sharps b) (flats (256 - b)) (lt-leb b 7 (omega arith))) (omega arith)
+
+-- the byte of a key
+pub key-same : (b : ℕ) → b ≤ 255 → keyByte (keyOf b) ≡ b
+unfolding keyByte keyOf pick
+key-same b h = by-test (leb b 7) (λ t. rw t refl) (λ t. rw t (omega (arith, leb-false b 7 t)))
 
 -- ---- a name that is found is spelled; so a text's type is 1..7
 

@@ -4,18 +4,18 @@ use mathlib.Core.Bool.{Bool, true, false, false≢true}
 use mathlib.Core.List.{List, [], _∷_}
 use native.Mathlib.Omega.{arith}
 use lib.ListN.{length, length-append}
-use Rattle.event.specs.Number.{Width, w1, w2, w3, w4, vlq}
+use Rattle.event.specs.Number.{w4}
 use Rattle.event.specs.Event.{Event, Lawful, isEnd}
 use Rattle.event.specs.Frame.{Frame, channel1, channel2, exclusive, meta, frame, after, noStatus}
 use Rattle.event.specs.Spelling.{Rest, leftOut, lengthIn, Spelling, Spelled, Permitted}
 use Rattle.event.specs.Layout.{layChannel, layFrame, layEvent}
 use Rattle.event.specs.Manner.{Manner, spellEvent}
-use Rattle.event.proofs.BytesLaws.{length-bigEndian}
 use Rattle.event.proofs.NumberLaws.{limit-most}
 use Rattle.event.proofs.MannerLaws.{event-permitted}
+use Rattle.event_write.proofs.NumberLaws.{width-length}
 use Rattle.smf.specs.Piece.{Ends, LawfulEvents, LawfulTracks}
 use Rattle.smf.specs.Spelling.{PermittedEvents, PermittedTracks}
-use Rattle.smf.specs.Layout.{layEvents, layTrack, layTracks, ShortTracks}
+use Rattle.smf.specs.Layout.{layEvents, ShortTracks}
 use Rattle.smf.specs.Manner.{spellEvents, spellTracks}
 
 -- the number that a Length says
@@ -129,13 +129,6 @@ unfoldable pub most : List Event → ℕ
 most [] = 0
 most (e ∷ es) = 10 + dataSize (frame (e .kind)) + most es
 
-vlq-most : (w : Width) (v : ℕ) → length (vlq w v) ≤ 4
-unfolding vlq
-vlq-most w1 v = omega arith
-vlq-most w2 v = omega arith
-vlq-most w3 v = omega arith
-vlq-most w4 v = omega arith
-
 frame-most : (x : Frame) (s : Rest) → length (layFrame x s) ≤ 6 + dataSize x
 unfolding layFrame layChannel dataSize
 frame-most (channel1 s a) (leftOut true) = omega arith
@@ -145,9 +138,9 @@ frame-most (channel2 s a b) (leftOut true) = omega arith
 frame-most (channel2 s a b) (leftOut false) = omega arith
 frame-most (channel2 s a b) (lengthIn w) = omega arith
 frame-most (exclusive s d) (leftOut o) = omega arith
-frame-most (exclusive s d) (lengthIn w) = simp length-append (omega (arith, vlq-most w (length d)))
+frame-most (exclusive s d) (lengthIn w) = simp length-append (omega (arith, width-length w (length d)))
 frame-most (meta t d) (leftOut o) = omega arith
-frame-most (meta t d) (lengthIn w) = simp length-append (omega (arith, vlq-most w (length d)))
+frame-most (meta t d) (lengthIn w) = simp length-append (omega (arith, width-length w (length d)))
 
 events-most : (prev : ℕ) (es : List Event) (ss : List Spelling) → length (layEvents prev es ss) ≤ most es
 unfolding layEvents layEvent most
@@ -155,18 +148,12 @@ events-most prev [] ss = omega arith
 events-most prev (e ∷ es) [] = omega arith
 events-most prev (e ∷ es) (s ∷ ss) =
     let h = events-most (e .time) es ss in
-    simp length-append (omega (arith, vlq-most (s .delta) (e .time - prev), frame-most (frame (e .kind)) (s .rest)))
+    simp length-append (omega (arith, width-length (s .delta) (e .time - prev), frame-most (frame (e .kind)) (s .rest)))
 
 -- with the tag and the length of each track
 unfoldable pub mostAll : List (List Event) → ℕ
 mostAll [] = 0
 mostAll (t ∷ ts) = 8 + most t + mostAll ts
-
-pub tracks-most : (ts : List (List Event)) (ss : List (List Spelling)) → length (layTracks ts ss) ≤ mostAll ts
-unfolding layTracks layTrack mostAll
-tracks-most [] ss = omega arith
-tracks-most (t ∷ ts) [] = omega arith
-tracks-most (t ∷ ts) (s ∷ ss) = let h = tracks-most ts ss in simp (length-append, length-bigEndian) (omega (arith, events-most 0 t s))
 
 pub tracks-short : (ts : List (List Event)) (ss : List (List Spelling)) → mostAll ts ≤ 4294967295 → ShortTracks ts ss
 unfolding mostAll ShortTracks

@@ -1,6 +1,6 @@
 -- The bytes of Data, field after field.
-use mathlib.Core.Path.{_≡_, refl, ap, _∙_}
-use Prim.Native.Nat.{ℕ, zero, suc, _-_, _<_, _≤_}
+use mathlib.Core.Path.{_≡_, refl, sym, ap, _∙_}
+use Prim.Native.Nat.{ℕ, zero, suc, _+_, _-_, _<_, _≤_}
 use mathlib.Core.List.{List, [], _∷_, _++_}
 use native.Mathlib.Omega.{arith}
 use lib.ListN.{length, drop}
@@ -11,20 +11,16 @@ use Rattle.event_write.proofs.WriteLaws.{Remains, all-remains, go-on, done}
 use Rattle.midicsv.specs.Field.{Field}
 use Rattle.midicsv.specs.ReadField.{readField}
 use Rattle.midicsv_record.specs.Row.{byteIn, afterField, dataFrom}
+use Rattle.midicsv_record.proofs.BodyLaws.{after-place}
 use Rattle.midicsv_read.specs.Data.{DataIs}
 use Rattle.midicsv_read.specs.declared.DataStep.{DataStep}
 
 -- ---- one field
 
-after-ok : (f : Field) (r : List ℕ) → drop 1 r ≡ afterField (ok f r)
-unfolding afterField
-after-ok f [] = refl
-after-ok f (c ∷ r) = refl
-
 -- a field that ends at p
 pub data-found : (l : List ℕ) (at p : ℕ) (f : Field) (r : DataStep) → ok f (drop p l) ≡ readField (drop at l) → r .byte ≡ byteIn (ok f (drop p l))
-    → drop (r .next) l ≡ drop 1 (drop p l) → r .next ≤ length l → DataIs l at r
-data-found l at p f r e b n h = record { byte = b ∙ ap byteIn e; rest = n ∙ after-ok f (drop p l) ∙ ap afterField e; inside = h }
+    → drop (r .next) l ≡ drop (p + 1) l → r .next ≤ length l → DataIs l at r
+data-found l at p f r e b n h = record { byte = b ∙ ap byteIn e; rest = n ∙ sym (after-place l f p) ∙ ap afterField e; inside = h }
 
 -- none
 pub data-bad : (l : List ℕ) (at : ℕ) → refused 22 0 ≡ readField (drop at l) → DataIs l at (record { byte = 0; next = length l })

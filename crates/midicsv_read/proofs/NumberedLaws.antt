@@ -1,37 +1,18 @@
 -- What stands under each number of a name.
 use mathlib.Core.Path.{_≡_, refl, subst}
 use Prim.Native.Nat.{ℕ, zero, suc, _+_, _-_, _<_, _≤_}
-use mathlib.Core.List.{List, [], _∷_}
+use mathlib.Core.List.{List}
 use native.Mathlib.Omega.{arith}
-use lib.ListN.{length, getD}
-use lib.Dec.{eqb}
-use borrow.Author.Tests.{eqb-true, eqb-false}
+use lib.ListN.{List·getD-eq-default}
 use Rattle.event.specs.declared.EventKind.the-variants.{Text, EndTrack}
-use Rattle.event.proofs.ChoiceLaws.{by-test}
-use Rattle.midicsv.specs.Table.{RecordName, end-of-file, Tail, none, oneText, sized, eventShape, shape}
+use Rattle.midicsv.specs.Table.{end-of-file, Tail, none, oneText, sized, eventShape, shape}
 use Rattle.midicsv.specs.Names.{allNames}
 use Rattle.midicsv_record.specs.Row.{nameAt}
+use Rattle.midicsv_record.proofs.TableLaws.{each}
 use Rattle.midicsv_read.specs.RowEvent.{eventKind, kindNumbered}
 
--- P holds of the k numbers from lo on, so of each of them
-abbrev Run : (ℕ → Type 0) → ℕ → ℕ → Type 0
-Run P lo zero = Unit {0}
-Run P lo (suc k) = P lo × Run P (suc lo) k
-
-run-at : (P : ℕ → Type 0) (lo k n : ℕ) → Run P lo k → lo ≤ n → n < lo + k → P n
-run-at P lo zero n r a b = absurd (omega arith)
-run-at P lo (suc k) n r a b =
-    by-test (eqb lo n)
-    (λ e. subst P (eqb-true lo n e) (r .0))
-    (λ e. let h = eqb-false lo n e in run-at P (suc lo) k n (r .1) (omega arith) (omega arith))
-
-past : (l : List RecordName) (n : ℕ) (d : RecordName) → length l ≤ n → getD l n d ≡ d
-past [] n d h = refl
-past (x ∷ l) zero d h = absurd (omega arith)
-past (x ∷ l) (suc n) d h = past l n d (omega arith)
-
 no-name : (n : ℕ) → 29 ≤ n → nameAt n ≡ end-of-file
-no-name n h = past allNames n end-of-file h
+no-name n h = List·getD-eq-default allNames end-of-file h
 
 -- ---- kinds
 
@@ -39,13 +20,12 @@ module _ (v : List ℕ) (start len : ℕ) where
   -- Header, Start_track and End_of_file
   pub low-kind : (n : ℕ) → n < 3 → EndTrack ≡ kindNumbered (nameAt n) v start len
   unfolding kindNumbered
-  low-kind n h = run-at (λ z. EndTrack ≡ kindNumbered (nameAt z) v start len) 0 3 n (refl, (refl, (refl, tt))) (omega arith) (omega arith)
+  low-kind n h = each (λ z. EndTrack ≡ kindNumbered (nameAt z) v start len) 0 3 n (omega arith) (omega arith) (refl, (refl, (refl, tt)))
 
   pub text-kind : (n : ℕ) → 13 ≤ n → n < 20 → Text (n - 12) start len ≡ kindNumbered (nameAt n) v start len
   unfolding kindNumbered eventKind
   text-kind n a b =
-      run-at (λ z. Text (z - 12) start len ≡ kindNumbered (nameAt z) v start len) 13 7 n
-      (refl, (refl, (refl, (refl, (refl, (refl, (refl, tt))))))) (omega arith) (omega arith)
+      each (λ z. Text (z - 12) start len ≡ kindNumbered (nameAt z) v start len) 13 7 n (omega arith) (omega arith) (refl, (refl, (refl, (refl, (refl, (refl, (refl, tt)))))))
 
   -- End_track, and what is no name
   abbrev Other : ℕ → Type 0
@@ -76,27 +56,27 @@ Ended t n = shape (nameAt n) .tail ≡ t
 
 pub low-tail : (n : ℕ) → n < 10 → Ended none n
 unfolding shape eventShape
-low-tail n h = run-at (Ended none) 0 10 n (refl, (refl, (refl, (refl, (refl, (refl, (refl, (refl, (refl, (refl, tt)))))))))) (omega arith) h
+low-tail n h = each (Ended none) 0 10 n (omega arith) h (refl, (refl, (refl, (refl, (refl, (refl, (refl, (refl, (refl, (refl, tt))))))))))
 
 pub exclusive-tail : (n : ℕ) → 10 ≤ n → n < 12 → Ended sized n
 unfolding shape eventShape
-exclusive-tail n a b = run-at (Ended sized) 10 2 n (refl, (refl, tt)) a b
+exclusive-tail n a b = each (Ended sized) 10 2 n a b (refl, (refl, tt))
 
 pub number-tail : (n : ℕ) → 12 ≤ n → n < 13 → Ended none n
 unfolding shape eventShape
-number-tail n a b = run-at (Ended none) 12 1 n (refl, tt) a b
+number-tail n a b = each (Ended none) 12 1 n a b (refl, tt)
 
 pub text-tail : (n : ℕ) → 13 ≤ n → n < 20 → Ended oneText n
 unfolding shape eventShape
-text-tail n a b = run-at (Ended oneText) 13 7 n (refl, (refl, (refl, (refl, (refl, (refl, (refl, tt))))))) a b
+text-tail n a b = each (Ended oneText) 13 7 n a b (refl, (refl, (refl, (refl, (refl, (refl, (refl, tt)))))))
 
 pub meta-tail : (n : ℕ) → 20 ≤ n → n < 27 → Ended none n
 unfolding shape eventShape
-meta-tail n a b = run-at (Ended none) 20 7 n (refl, (refl, (refl, (refl, (refl, (refl, (refl, tt))))))) a b
+meta-tail n a b = each (Ended none) 20 7 n a b (refl, (refl, (refl, (refl, (refl, (refl, (refl, tt)))))))
 
 pub specific-tail : (n : ℕ) → 27 ≤ n → n < 29 → Ended sized n
 unfolding shape eventShape
-specific-tail n a b = run-at (Ended sized) 27 2 n (refl, (refl, tt)) a b
+specific-tail n a b = each (Ended sized) 27 2 n a b (refl, (refl, tt))
 
 pub no-tail : (n : ℕ) → 29 ≤ n → Ended none n
 unfolding shape

@@ -1,21 +1,13 @@
--- The bytes of a quoted text as the writer's loop puts them.
-use mathlib.Core.Path.{_≡_, refl, sym}
-use Prim.Native.Nat.{ℕ, suc, _+_, _-_, _*_, _<_, _≤_}
+-- The bytes of a quoted text are no more than the bytes of the line.
+use Prim.Native.Nat.{ℕ, suc, _+_, _-_, _*_, _≤_}
 use mathlib.Core.Bool.{Bool, true, false}
 use mathlib.Core.List.{List, [], _∷_}
 use native.Mathlib.Omega.{arith}
-use native.Mathlib.Numerals.{add-one}
-use lib.ListN.{length, drop, getD, length-drop, drop-of-length-le}
-use lib.Seq.{drop-cons}
+use lib.ListN.{length, drop, length-drop}
 use lib.Dec.{eqb}
 use Rattle.event.specs.Choice.{pick}
 use Rattle.midicsv.specs.ReadField.{Seen, plain, aQuote, aSlash, octal1, octal2}
 use Rattle.midicsv_scan.specs.Unquoted.{unquoted}
-use Rattle.midicsv_read.specs.Quoted.{seenOf, putOf, Gives}
-use Rattle.midicsv_read.specs.declared.Look.{Look}
-use Rattle.midicsv_read.specs.declared.Put.{Put}
-
--- ---- they are no more than the bytes of the line
 
 pick-most : (t : Bool) (x y : List ℕ) (n : ℕ) → length x ≤ n → length y ≤ n → length (pick t x y) ≤ n
 unfolding pick
@@ -46,19 +38,3 @@ unquoted-size (c ∷ l) (octal2 n) = let h = unquoted-size l plain in omega arit
 
 pub unquoted-most : (l : List ℕ) (i : ℕ) (s : Seen) → length (unquoted (drop i l) s) ≤ length l
 unquoted-most l i s = omega (arith, unquoted-size (drop i l) s, length-drop i l)
-
--- ---- one byte more, and the end of the line
-
-unquoted-nil : (s : Seen) → unquoted [] s ≡ []
-unfolding unquoted
-unquoted-nil plain = refl
-unquoted-nil aQuote = refl
-unquoted-nil aSlash = refl
-unquoted-nil (octal1 n) = refl
-unquoted-nil (octal2 n) = refl
-
-pub unquoted-past : (l : List ℕ) (i : ℕ) (s : Seen) → length l ≤ i → unquoted (drop i l) s ≡ []
-unquoted-past l i s h = rw (drop-of-length-le l h) (unquoted-nil s)
-
-pub unquoted-on : (l : List ℕ) (i : ℕ) (s : Look) (r : Put) → i < length l → Gives s (getD l i 0) r → unquoted (drop i l) (seenOf s) ≡ putOf r (drop (i + 1) l)
-unquoted-on l i s r h g = rw (add-one i, drop-cons l i 0 h) (sym (g (drop (suc i) l)))

@@ -5,18 +5,13 @@ use mathlib.Core.List.{List, [], _∷_, _++_}
 use mathlib.Core.Logic.{inl, inr}
 use native.Mathlib.Omega.{arith}
 use lib.ListN.{length, getD, drop, length-append}
-use lib.Dec.{leb}
-use borrow.Author.Tests.{leb-false}
-use Rattle.event.specs.Choice.{pick}
 use Rattle.event.specs.Event.{Event, Fits, isEnd}
-use Rattle.event.specs.Frame.{keyByte, frame, after}
+use Rattle.event.specs.Frame.{frame, after}
 use Rattle.event.specs.Layout.{layEvent}
 use Rattle.event.specs.Manner.{Manner, spellEvent}
-use Rattle.event.specs.Reader.{keyOf}
 use Rattle.event.specs.Step.{kindAt, endOf}
 use Rattle.event.specs.declared.EventKind.{EventKind}
 use Rattle.event.specs.declared.EventKind.the-variants.{SystemExclusive, SystemExclusivePacket, Text, KeySignature, SequencerSpecific, UnknownMeta}
-use Rattle.event.proofs.ChoiceLaws.{by-test}
 use Rattle.event_write.specs.Head.{headBytes, dataOf}
 use Rattle.event_write.proofs.HeadLaws.{event-bytes}
 use Rattle.event_write.proofs.DataLaws.{head-length}
@@ -25,7 +20,7 @@ use Rattle.midicsv.specs.Record.{Values}
 use Rattle.midicsv.specs.ReadField.{plain}
 use Rattle.midicsv.specs.KindOf.{kindNamed}
 use Rattle.midicsv.proofs.RowLaws.{InColumn, InColumns, InTail}
-use Rattle.midicsv.proofs.KindAcceptedLaws.{nth-in, kind-fits}
+use Rattle.midicsv.proofs.KindAcceptedLaws.{nth-in, key-same, kind-fits}
 use Rattle.midicsv.proofs.LayableLaws.{Layable, one-permitted}
 use Rattle.midicsv_record.specs.Row.{nameAt, bodyIn}
 use Rattle.midicsv_read.specs.RowEvent.{eventKind, rowKind, rowBody, rowBytes, statusAfter}
@@ -64,10 +59,6 @@ nibble-is : (cs : List Column) (ns : List ℕ) → InColumns (range 0 15 ∷ cs)
 unfolding InColumn
 nibble-is cs ns h = omega (arith, nth-in (range 0 15 ∷ cs) ns 0 h (omega arith))
 
-key-same : (b : ℕ) → b ≤ 255 → b ≡ keyByte (keyOf b)
-unfolding keyByte keyOf pick
-key-same b h = by-test (leb b 7) (λ e. rw e) (λ e. rw e (omega (arith, leb-false b 7 e)))
-
 text-low : (t : ℕ) → 1 ≤ length (spelled (event (words t))) → t % 256 ≡ t
 unfolding shape eventShape InColumns InTail kindNamed Fits
 text-low t h = let f = kind-fits (words t) (record { columns = []; body = [] }) h tt tt in omega (arith, f .0 .1)
@@ -100,7 +91,7 @@ row-kind smpte-offset v start l h = rw (byte-is _ (v .columns) 0 h (omega arith)
 row-kind time-signature v start l h = rw (byte-is _ (v .columns) 0 h (omega arith) (omega arith), byte-is _ (v .columns) 1 h (omega arith) (omega arith), byte-is _ (v .columns) 2 h (omega arith) (omega arith), byte-is _ (v .columns) 3 h (omega arith) (omega arith))
 row-kind key-signature v start l h =
     let a : getD (v .columns) 0 0 % 256 ≡ getD (v .columns) 0 0 = byte-is _ (v .columns) 0 h (omega arith) tt in
-    rw (a, byte-is _ (v .columns) 1 h (omega arith) tt) (ap (λ z. KeySignature z (getD (v .columns) 1 0)) (key-same (getD (v .columns) 0 0) (omega (arith, a))))
+    rw (a, byte-is _ (v .columns) 1 h (omega arith) tt) (ap (λ z. KeySignature z (getD (v .columns) 1 0)) (sym (key-same (getD (v .columns) 0 0) (omega (arith, a)))))
 row-kind sequencer-specific v start l h = ap (λ z. SequencerSpecific z (length (v .body))) (from-end start (length (v .body)))
 row-kind unknown-meta v start l h =
     rw (byte-is _ (v .columns) 0 h (omega arith) tt) (ap (λ z. UnknownMeta (getD (v .columns) 0 0) z (length (v .body))) (from-end start (length (v .body))))

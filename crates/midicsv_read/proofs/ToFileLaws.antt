@@ -1,14 +1,15 @@
 -- The answers of text to file: one law for each exit.
-use mathlib.Core.Path.{_≡_, refl, sym, ap, ap₂, _∙_}
-use Prim.Native.Nat.{ℕ, _+_, _<_, _≤_}
-use mathlib.Core.List.{List, [], _∷_, _++_}
+use mathlib.Core.Path.{_≡_, refl, sym, ap₂, _∙_}
+use Prim.Native.Nat.{ℕ, _<_, _≤_}
+use mathlib.Core.List.{List, [], _∷_}
 use native.Mathlib.Omega.{arith}
-use lib.ListN.{length, drop}
-use lib.Seq.{sets, sets-eq}
+use lib.ListN.{length}
+use lib.Seq.{sets}
 use borrow.Author.Tests.{le-leb, lt-leb}
 use Rattle.event.specs.Choice.{pick}
 use Rattle.event.specs.Manner.{Manner}
 use Rattle.event.specs.Outcome.{Outcome, ok, refused}
+use Rattle.event_write.proofs.WriteLaws.{put-whole}
 use Rattle.smf.specs.Piece.{Piece}
 use Rattle.smf.specs.Reader.{fileLimit}
 use Rattle.smf.specs.Manner.{fileOf}
@@ -75,11 +76,6 @@ module _ (text : List ℕ) (manner : ℕ) (old : List ℕ) (h : manner ≤ 1) (k
         let u = lt-leb n (length old) g in
         decides (roomNeeded n) old (rw (x, ← size, t, u) refl) (rw (x, ← size, t, u) refl))
 
-    put-whole : (f : List ℕ) → n ≡ length f → n ≤ length old → sets old 0 f ≡ f ++ drop n old
-    put-whole f size g =
-        let past : 0 + length f ≡ n = omega (arith, size) in
-        sets-eq f old 0 (omega (arith, size)) ∙ ap (λ z. f ++ drop z old) past
-
     pub written-file : (new : List ℕ) → n ≤ fileLimit → n ≤ length old → Leaves M (pieceOfText text) old new → Right text manner old (success n) new
     unfolding pieceAnswer pieceLeaves writeAnswer writeLeaves pick Leaves
     written-file new b g w =
@@ -87,7 +83,7 @@ module _ (text : List ℕ) (manner : ℕ) (old : List ℕ) (h : manner ≤ 1) (k
         let t = le-leb n fileLimit b in
         let u = le-leb n (length old) g in
         let v : new ≡ sets old 0 (fileOf M p) = rw x at w in
-        decides (success n) new (rw (x, ← size, t, u) refl) (rw (x, ← size, t, u) (v ∙ put-whole (fileOf M p) size g)))
+        decides (success n) new (rw (x, ← size, t, u) refl) (rw (x, ← size, t, u) (v ∙ put-whole (fileOf M p) old n size g)))
 
 -- a room of no bytes
 pub no-room : (l : List ℕ) → length l ≡ 0 → l ≡ []

@@ -2,5 +2,4 @@ pub mod RowEvent
 pub mod ToFile
 pub mod Cut
 pub mod Progress
-pub mod Quoted
 pub mod Data

@@ -1,7 +1,7 @@
 -- The event of a row as the event side has it, and its bytes. Outside their ranges numbers are cut to their bits, so that the writer
 -- is total; of a row that was read nothing is cut (row-kind).
 use Prim.Native.Nat.{ℕ, _+_, _%_}
-use mathlib.Core.List.{List, [], _∷_, _++_}
+use mathlib.Core.List.{List, _++_}
 use lib.ListN.{length, getD}
 use Rattle.event.specs.Manner.{Manner}
 use Rattle.event.specs.Frame.{noStatus}

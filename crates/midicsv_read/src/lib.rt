@@ -1,25 +1,8 @@
 // Text to file.
-pub mod write_row; // write_row.rt: a row's event written
-pub mod frame; // frame.rt: the lines of a text
-pub mod order; // order.rt: records in their order
+mod write_row; // write_row.rt: a row's event written
+mod frame; // frame.rt: the lines of a text
+mod order; // order.rt: records in their order
 pub mod to_file; // to_file.rt: text to file
-
-// What has just been passed in a quoted text: nothing special, a quote, a backslash, or one or two
-// octal digits and what they make.
-enum Look {
-    Plain,
-    Quote,
-    Slash,
-    One(u32),
-    Two(u32),
-}
-
-// What a byte of a quoted text gives: nothing yet, a byte, or the text's end.
-enum Put {
-    Nothing(Look),
-    Byte(u8, Look),
-    Done,
-}
 
 // The byte of a field of Data, and the place of the field after it.
 struct DataStep {

@@ -8,15 +8,16 @@ ghost use Rattle.midicsv.specs.ReadField.{plain};
 ghost use Rattle.midicsv_scan.specs.Unquoted.{unquoted};
 ghost use Rattle.midicsv_record.specs.Row.{dataFrom};
 ghost use Rattle.midicsv_read.specs.RowEvent.{rowKind, rowBody, rowBytes, statusAfter};
-ghost use Rattle.midicsv_read.specs.Quoted.{SaneLook, SanePut, Gives};
 ghost use Rattle.midicsv_read.specs.Data.{DataIs};
 use super::DataStep;
-use super::Look;
-use super::Put;
 use event::Delta;
 use event::EventKind;
 use event_write::bytes::put_byte;
 use midicsv_record::Row;
+use midicsv_record::TextState;
+use midicsv_record::TextStep;
+use midicsv_record::body::after_comma;
+use midicsv_record::text::text_step;
 use midicsv_scan::FieldStep;
 use midicsv_scan::field::field_at;
 
@@ -157,49 +158,6 @@ pub fn status_after(kind: EventKind) -> u8
     }
 }
 
-// The digit of a byte; of one below the digits 0, which no text that is read has.
-fn digit(c: u8) -> u32
-    ensures { λ r. ⌜ r ≡ c - 48 ⌝ }
-{
-    if c < 48 {
-        return 0;
-    }
-    c as u32 - 48
-}
-
-// What one byte of a quoted text gives, by what stands before it.
-fn put_at(look: Look, c: u8) -> Put
-    requires { ⌜ SaneLook look ⌝ }
-    ensures gives { λ r. ⌜ Gives look c r ⌝ }
-    ensures sane { λ r. ⌜ SanePut r ⌝ }
-{
-    match look {
-        Look::Plain => {
-            if c == 34 {
-                return Put::Nothing(Look::Quote);
-            }
-            if c == 92 {
-                return Put::Nothing(Look::Slash);
-            }
-            Put::Byte(c, Look::Plain)
-        }
-        Look::Quote => {
-            if c == 34 {
-                return Put::Byte(34, Look::Plain);
-            }
-            Put::Done
-        }
-        Look::Slash => {
-            if c == 92 {
-                return Put::Byte(92, Look::Plain);
-            }
-            Put::Nothing(Look::One(digit(c)))
-        }
-        Look::One(n) => Put::Nothing(Look::Two(n * 8 + digit(c))),
-        Look::Two(n) => Put::Byte(((n * 8 + digit(c)) % 256) as u8, Look::Plain),
-    }
-}
-
 // The bytes of the quoted text that begins at a place of the line, after its quote.
 fn put_quoted(out: &mut [u8], at: usize, line: &[u8], start: usize) -> usize
     requires { ⌜ at < 2 ^ 45 ⌝ ∗ ⌜ start ≤ length (now line) ⌝ ∗ ⌜ length (now line) ≤ 33554432 ⌝ }
@@ -207,34 +165,24 @@ fn put_quoted(out: &mut [u8], at: usize, line: &[u8], start: usize) -> usize
 {
     let mut next = at;
     let mut i = start;
-    let mut look = Look::Plain;
+    let mut passed = TextState::Plain;
     while i < line.len() {
         let c = line[i];
         i = i + 1;
-        match put_at(look, c) {
-            Put::Nothing(seen) => {
-                look = seen;
+        match text_step(passed, c) {
+            TextStep::Nothing(seen) => {
+                passed = seen;
             }
-            Put::Byte(b, seen) => {
+            TextStep::Byte(b, seen) => {
                 next = put_byte(out, next, b);
-                look = seen;
+                passed = seen;
             }
-            Put::Done => {
+            TextStep::Closed => {
                 return next;
             }
         }
     }
     next
-}
-
-// The place after a comma, or the line's end where no comma stands.
-fn after_comma(line: &[u8], comma: usize) -> usize
-    ensures { λ r. ⌜ drop r (now (line .entry)) ≡ drop 1 (drop comma (now (line .entry))) ⌝ ∗ ⌜ r ≤ length (now (line .entry)) ⌝ }
-{
-    if comma < line.len() {
-        return comma + 1;
-    }
-    line.len()
 }
 
 // The byte of the field of Data at a place, and the place of the field after it.

@@ -32,7 +32,7 @@ use Rattle.midicsv_record.specs.declared.TailStep.the-variants.{Start, U
 -- ---- the loop over the data
 
 -- the rest after a field that ends at q
-after-place : (l : List ℕ) (f : Field) (q : ℕ) → afterField (ok f (drop q l)) ≡ drop (q + 1) l
+pub after-place : (l : List ℕ) (f : Field) (q : ℕ) → afterField (ok f (drop q l)) ≡ drop (q + 1) l
 unfolding afterField
 after-place [] f zero = refl
 after-place [] f (suc q) = rw (add-one (suc q)) refl

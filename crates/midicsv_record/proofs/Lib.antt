@@ -1,10 +1,11 @@
-mod TableLaws
+pub mod TableLaws
 mod ColumnAtLaws
 mod ColumnLaws
+pub mod TextLaws
 mod WordLaws
 mod FieldInLaws
 mod FiveLaws
-mod BodyLaws
+pub mod BodyLaws
 mod SizeLaws
 mod LineLaws
 mod NameLaws

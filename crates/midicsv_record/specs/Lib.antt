@@ -1,7 +1,7 @@
 -- What the answer about a line says.
 pub mod Row
 pub mod Table
-pub mod Passed
+pub mod TextState
 pub mod Column
 pub mod Body
 pub mod Line

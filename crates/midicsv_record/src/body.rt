@@ -35,15 +35,14 @@ fn text_start(line: &[u8], i: usize) -> TailStep
     }
 }
 
-// The place after a field's comma; at the line's end there is none.
-fn after_comma(line: &[u8], at: usize) -> usize
-    requires { ⌜ at ≤ length (now line) ⌝ }
-    ensures { λ r. ⌜ drop r (now (line .entry)) ≡ drop (at + 1) (now (line .entry)) ⌝ ∗ ⌜ r ≤ length (now (line .entry)) ⌝ }
+// The place after a comma, or the line's end where no comma stands.
+pub fn after_comma(line: &[u8], comma: usize) -> usize
+    ensures { λ r. ⌜ drop r (now (line .entry)) ≡ drop (comma + 1) (now (line .entry)) ⌝ ∗ ⌜ r ≤ length (now (line .entry)) ⌝ }
 {
-    if at < line.len() {
-        return at + 1;
+    if comma < line.len() {
+        return comma + 1;
     }
-    at
+    line.len()
 }
 
 // Whether the len fields from a place on are all data bytes.

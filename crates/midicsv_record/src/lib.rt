@@ -1,8 +1,8 @@
 // A line's record: its name, its numbers, and where its Text or Data stand.
-pub mod name; // name.rt: the names of records
-pub mod table; // table.rt: the columns and the tail of each record
+mod name; // name.rt: the names of records
+mod table; // table.rt: the columns and the tail of each record
 pub mod text; // text.rt: a quoted text beside a word
-pub mod column; // column.rt: fields beside their columns
+mod column; // column.rt: fields beside their columns
 pub mod body; // body.rt: where Text and Data stand
 pub mod line; // line.rt: the record of a line
 
@@ -45,7 +45,7 @@ pub enum TailKind {
 
 // What has just been passed in a quoted text: nothing special, a quote, a backslash, or one or two
 // octal digits.
-pub enum Passed {
+pub enum TextState {
     Plain,
     Quote,
     Slash,
@@ -55,8 +55,8 @@ pub enum Passed {
 
 // What a character of a quoted text gives.
 pub enum TextStep {
-    Nothing(Passed),
-    Byte(u8, Passed),
+    Nothing(TextState),
+    Byte(u8, TextState),
     Closed,
 }
 

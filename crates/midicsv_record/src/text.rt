@@ -5,8 +5,8 @@ ghost use lib.ListN.{drop};
 ghost use Rattle.midicsv.specs.ReadField.{plain};
 ghost use Rattle.midicsv.specs.ReadRecord.{sameBytes};
 ghost use Rattle.midicsv_scan.specs.Unquoted.{unquoted};
-ghost use Rattle.midicsv_record.specs.Passed.{Gives, Small, SmallStep};
-use super::Passed;
+ghost use Rattle.midicsv_record.specs.TextState.{Gives, Small, SmallStep};
+use super::TextState;
 use super::TextStep;
 
 // The value of an octal digit; of other characters some number, for the scanner has refused them.
@@ -20,34 +20,34 @@ fn digit(c: u8) -> u32
 }
 
 // What the next character of a quoted text gives.
-fn text_step(passed: Passed, c: u8) -> TextStep
+pub fn text_step(passed: TextState, c: u8) -> TextStep
     requires { ⌜ Small passed ⌝ }
     ensures { λ r. ⌜ Gives passed c r ⌝ ∗ ⌜ SmallStep r ⌝ }
 {
     match passed {
-        Passed::Plain => {
+        TextState::Plain => {
             if c == 34 {
-                return TextStep::Nothing(Passed::Quote);
+                return TextStep::Nothing(TextState::Quote);
             }
             if c == 92 {
-                return TextStep::Nothing(Passed::Slash);
+                return TextStep::Nothing(TextState::Slash);
             }
-            TextStep::Byte(c, Passed::Plain)
+            TextStep::Byte(c, TextState::Plain)
         }
-        Passed::Quote => {
+        TextState::Quote => {
             if c == 34 {
-                return TextStep::Byte(34, Passed::Plain);
+                return TextStep::Byte(34, TextState::Plain);
             }
             TextStep::Closed
         }
-        Passed::Slash => {
+        TextState::Slash => {
             if c == 92 {
-                return TextStep::Byte(92, Passed::Plain);
+                return TextStep::Byte(92, TextState::Plain);
             }
-            TextStep::Nothing(Passed::One(digit(c)))
+            TextStep::Nothing(TextState::One(digit(c)))
         }
-        Passed::One(n) => TextStep::Nothing(Passed::Two(n * 8 + digit(c))),
-        Passed::Two(n) => TextStep::Byte(((n * 8 + digit(c)) % 256) as u8, Passed::Plain),
+        TextState::One(n) => TextStep::Nothing(TextState::Two(n * 8 + digit(c))),
+        TextState::Two(n) => TextStep::Byte(((n * 8 + digit(c)) % 256) as u8, TextState::Plain),
     }
 }
 
@@ -57,7 +57,7 @@ pub fn is_word(line: &[u8], start: usize, word: &[u8]) -> bool
 {
     let mut i = start;
     let mut k = 0;
-    let mut passed = Passed::Plain;
+    let mut passed = TextState::Plain;
     while i < line.len() {
         let c = line[i];
         i = i + 1;

@@ -1,17 +1,18 @@
 -- The answers of file to text.
 use mathlib.Core.Path.{_≡_, refl, ap, _∙_}
-use Prim.Native.Nat.{ℕ, _+_, _*_, _≤_, _<_}
+use Prim.Native.Nat.{ℕ, _*_, _≤_, _<_}
 use mathlib.Core.List.{List, _++_}
 use native.Mathlib.Omega.{arith}
 use lib.ListN.{length, drop}
 use lib.Dec.{leb}
-use lib.Seq.{sets, sets-eq}
+use lib.Seq.{sets}
 use borrow.Author.Tests.{leb-true, le-leb, lt-leb}
 use Rattle.event.specs.Bytes.{Bytes}
 use Rattle.event.specs.Choice.{pick}
 use Rattle.event.specs.Outcome.{Outcome, ok, refused}
 use Rattle.event.proofs.ChoiceLaws.{by-test}
 use Rattle.event.proofs.OutcomeLaws.{check-ok}
+use Rattle.event_write.proofs.WriteLaws.{put-whole}
 use Rattle.smf.specs.Piece.{Piece}
 use Rattle.smf.specs.Reader.{fileLimit, readFile}
 use Rattle.smf.specs.PieceRead.{pieceRead}
@@ -61,9 +62,8 @@ module _ (s : List ℕ) (there : AcceptedFile s) where
     pub fine-leaves : n ≤ length old → sets old 0 Out ≡ textLeaves (readFile s) old
     unfolding textLeaves pick
     fine-leaves h =
-        let past : 0 + length Out ≡ n = omega (arith, size) in
-        let put : sets old 0 Out ≡ Out ++ drop n old = sets-eq Out old 0 (omega (arith, size)) ∙ ap (λ k. Out ++ drop k old) past in
-        put ∙ ap (λ p. textOf p ++ drop n old) (there .same) ∙ rw (there .read, ← same-size, le-leb n (length old) h) refl
+        put-whole Out old n size h
+        ∙ ap (λ p. textOf p ++ drop n old) (there .same) ∙ rw (there .read, ← same-size, le-leb n (length old) h) refl
 
 -- ---- the answers fit the exported number
 

@@ -6,10 +6,9 @@ use native.Mathlib.Omega.{arith}
 use denote.Enum.Declared.{tagOf}
 use types.Run.{OneOf, miss}
 use lib.ListN.{length, length-append}
-use lib.Dec.{ltb, leb, eqb}
+use lib.Dec.{ltb, eqb}
 use Rattle.event.specs.Choice.{pick}
 use Rattle.event.specs.Event.{Event, Kind, noteOff, noteOn, polyAftertouch, control, program, channelAftertouch, pitchBend, systemExclusive, systemExclusivePacket, sequenceNumber, text, channelPrefix, midiPort, endTrack, tempo, smpteOffset, timeSignature, keySignature, sequencerSpecific, unknownMeta}
-use Rattle.event.specs.Frame.{keyByte}
 use Rattle.event.specs.Reader.{keyOf}
 use Rattle.event.specs.Step.{kindFrom}
 use Rattle.event.specs.declared.Time.{Time}
@@ -23,6 +22,7 @@ use Rattle.midicsv.specs.Field.{bytes, digitsOf, decimal, inOctal, escape, esca
 use Rattle.midicsv.specs.Table.{EventName, note-off, note-on, poly-aftertouch, control-change, program-change, channel-aftertouch, pitch-bend, system-exclusive, system-exclusive-packet, sequence-number, words, channel-prefix, midi-port, end-track, set-tempo, smpte-offset, time-signature, key-signature, sequencer-specific, unknown-meta, start-track, end-of-file, eventSpelled, spelled, Column, range, key, mode, freeType, Tail, none, oneText, sized, eventShape, shape}
 use Rattle.midicsv.specs.Record.{columnField, tailFields, fieldsOf, recordLine, nameOf, valuesOf}
 use Rattle.midicsv.specs.Text.{mark, eventRecord, recordsText}
+use Rattle.midicsv.proofs.KindAcceptedLaws.{key-same}
 use Rattle.midicsv.proofs.FieldLaws.{decimal-length, quote-length, data-length as fields-length}
 use Rattle.midicsv_write.specs.Line.{eventFrom, columnFields, bodyFields, line, headerFor}
 
@@ -57,10 +57,6 @@ pub key-length : (b : ℕ) → length (joined (columnField key b)) ≤ 13
 key-length b = omega (arith, column-length key b)
 
 -- ---- a key's byte
-
-key-same : (b : ℕ) → b ≤ 255 → keyByte (keyOf b) ≡ b
-unfolding keyByte keyOf pick
-key-same b h = by-test (leb b 7) (λ t. rw t refl) (λ t. rw t (omega arith))
 
 pub key-fields : (b m : ℕ) → b ≤ 255 → further (columnField key b ∷ columnField mode m ∷ []) ≡ further (columnFields (keySignature (keyOf b) m))
 unfolding nameOf eventShape valuesOf fieldsOf tailFields

@@ -8,7 +8,7 @@ use Rattle.event.specs.declared.EventKind.{EventKind}
 use Rattle.midicsv.specs.Field.{Field}
 use Rattle.midicsv.specs.Table.{header, none, eventShape}
 use Rattle.midicsv.specs.Record.{Record, tailFields, fieldsOf, nameOf, plain, valuesOf}
-use Rattle.midicsv.specs.Text.{eventRecord, recordsText}
+use Rattle.midicsv.specs.Text.{recordsText}
 
 -- the event of an answer of the event side
 abbrev pub eventFrom : Time → List ℕ → EventKind → Event

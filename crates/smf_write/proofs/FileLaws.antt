@@ -4,7 +4,7 @@ use Prim.Native.Nat.{ℕ, _+_, _-_, _*_, _<_, _≤_}
 use mathlib.Core.List.{List, [], _++_}
 use native.Mathlib.Omega.{arith}
 use lib.ListN.{length, take, drop, length-append}
-use lib.Seq.{sets, sets-eq}
+use lib.Seq.{sets}
 use borrow.Author.Tests.{le-leb, lt-leb}
 use Rattle.event.specs.Choice.{pick}
 use Rattle.event.specs.Bytes.{Bytes, bigEndian}
@@ -13,7 +13,7 @@ use Rattle.event.specs.Manner.{Manner, short}
 use Rattle.event.specs.Outcome.{Outcome, ok, refused, Readable, valueOr}
 use Rattle.event.proofs.BytesLaws.{bytes-drop}
 use Rattle.event_write.specs.Written.{Written}
-use Rattle.event_write.proofs.WriteLaws.{then, after-measure, measured}
+use Rattle.event_write.proofs.WriteLaws.{put-whole, then, after-measure, measured}
 use Rattle.smf.specs.Piece.{Piece}
 use Rattle.smf.specs.Layout.{trackTag, layHeader, layTracks, layPiece}
 use Rattle.smf.specs.Manner.{spellTracks, spelling, fileOf}
@@ -110,9 +110,8 @@ module _ (s : List ℕ) (there : AcceptedFile s) where
     pub fine-leaves : n ≤ fileLimit → n ≤ length old → sets old 0 Out ≡ tidyLeaves (readFile s) old
     unfolding writeLeaves pick
     fine-leaves h g =
-        let past : 0 + length Out ≡ length Out = omega arith in
-        let put : sets old 0 Out ≡ Out ++ drop (length Out) old = sets-eq Out old 0 (omega arith) ∙ ap (λ k. Out ++ drop k old) past in
-        put ∙ leaves _ (rw (le-leb (length Out) fileLimit (omega arith), le-leb (length Out) (length old) (omega arith)) refl)
+        put-whole Out old (length Out) refl (omega arith)
+        ∙ leaves _ (rw (le-leb (length Out) fileLimit (omega arith), le-leb (length Out) (length old) (omega arith)) refl)
 
 -- ---- what is written in a row
 

@@ -1,3 +1,4 @@
+use lib.Seq.{drop-length}
 use Prim.Native.Nat.{_+_, _≤_}
 use lib.ListN.{length, drop-of-length-le}
 use native.Mathlib.Omega.{arith}
@@ -14,10 +15,9 @@ returns c = search needs
 
 returns-2 : tie.Need-returns-2
 returns-2 c =
-    let a = c .before .args in
-    let h : length (a .line .now) ≤ a .at = c .if1 .left in
-    let k : length (a .line .now) ≤ a .at + 1 = omega arith in
-    (drop-of-length-le _ h ∙ sym (drop-of-length-le _ k), c .before .pre)
+    let l = c .before .args .line .now in
+    let h : length l ≤ c .before .args .comma + 1 = omega (arith, c .if1 .left) in
+    (drop-length l ∙ sym (drop-of-length-le l h), omega arith)
 
 pub after-comma-spec : {M : Type 1} → statement M
 after-comma-spec = tie.close (tie.spec add-result returns returns-2)

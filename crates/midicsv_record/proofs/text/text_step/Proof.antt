@@ -1,7 +1,7 @@
 use mathlib.Core.Path.{subst}
 use Rattle.event.specs.Choice.{pick}
 use Rattle.midicsv_scan.specs.Unquoted.{unquoted}
-use Rattle.midicsv_record.specs.Passed.{seenAs, stepAs, Small, SmallStep}
+use Rattle.midicsv_record.specs.TextState.{seenAs, stepAs, Small, SmallStep}
 use native.Mathlib.Omega.{arith}
 use borrow.Author.Tests.{eq-eqb, ne-eqb}
 use borrow.Author.Needs.{needs}

@@ -4,12 +4,12 @@ use Prim.Native.Nat.{ℕ, _<_}
 use mathlib.Core.List.{List, [], _∷_}
 use Rattle.midicsv.specs.ReadField.{Seen, plain, aQuote, aSlash, octal1, octal2}
 use Rattle.midicsv_scan.specs.Unquoted.{unquoted}
-use Rattle.midicsv_record.specs.declared.Passed.{Passed}
-use Rattle.midicsv_record.specs.declared.Passed.the-variants.{Plain, Quote, Slash, One, Two}
+use Rattle.midicsv_record.specs.declared.TextState.{TextState}
+use Rattle.midicsv_record.specs.declared.TextState.the-variants.{Plain, Quote, Slash, One, Two}
 use Rattle.midicsv_record.specs.declared.TextStep.{TextStep}
 use Rattle.midicsv_record.specs.declared.TextStep.the-variants.{Nothing, Byte, Closed}
 
-unfoldable pub seenAs : Passed → Seen
+unfoldable pub seenAs : TextState → Seen
 seenAs Plain = plain
 seenAs Quote = aQuote
 seenAs Slash = aSlash
@@ -17,7 +17,7 @@ seenAs (One n) = octal1 n
 seenAs (Two n) = octal2 n
 
 -- the digits so far make a number that two more leave in 32 bits
-unfoldable pub Small : Passed → Type 0
+unfoldable pub Small : TextState → Type 0
 Small Plain = Unit {0}
 Small Quote = Unit {0}
 Small Slash = Unit {0}
@@ -36,5 +36,5 @@ stepAs (Byte b p) l = b ∷ unquoted l (seenAs p)
 stepAs Closed l = []
 
 -- r is what the character c gives after p
-abbrev pub Gives : Passed → ℕ → TextStep → Type 0
+abbrev pub Gives : TextState → ℕ → TextStep → Type 0
 Gives p c r = (l : List ℕ) → stepAs r l ≡ unquoted (c ∷ l) (seenAs p)
