@@ -1,4 +1,4 @@
-/* Calls the functions of noferkash.h from C on files written by hand. */
+/* Calls the functions of noferkash.h from C on files and texts written by hand. */
 #include "noferkash.h"
 
 #include <stdio.h>
@@ -6,6 +6,7 @@
 
 #define LIMIT 1048576
 #define TEXT_LIMIT (25 * LIMIT)
+#define READ_LIMIT 33554432
 
 #define HEADER "MThd\0\0\0\6\0\0\0\1\0\x60"
 #define CHUNK(length, body) "MTrk\0\0\0" length body
@@ -202,6 +203,99 @@ static const struct written_case text_cases[] = {
     {"a fault, and no room", BYTES(FULL "\0"), 0, NOFERKASH_BYTES_AFTER_LAST_TRACK, 40, NOTHING}
 };
 
+/* A text, the manner and the room lent for it, and the answer due. */
+struct read_case {
+    const char *what;
+    const char *bytes;
+    size_t length;
+    uint32_t manner;
+    size_t room;
+    int number;
+    size_t place;
+    const char *due;
+    size_t due_length;
+};
+
+/* A text whose third line is this one; after Start_track, before END_LINES. */
+#define THIRD(line) BYTES(TEXT(line "\n"))
+#define GOOD_THIRD(line, length, body) \
+    THIRD(line), 1, 100, NOFERKASH_OK, 0, BYTES(TRACK(length, "\0" body END))
+#define BAD_THIRD(line, number) THIRD(line), 1, 100, number, 3, NOTHING
+#define BAD(text, number, line) BYTES(text), 1, 100, number, line, NOTHING
+
+static const struct read_case file_cases[] = {
+    {"the example of document 01", BYTES(EXAMPLE_TEXT), 1, 39, NOFERKASH_OK, 0, BYTES(SHORT)},
+    {"the example in manner 0", BYTES(EXAMPLE_TEXT), 0, 40, NOFERKASH_OK, 0, BYTES(FULL)},
+    {"room larger", BYTES(EXAMPLE_TEXT), 1, 64, NOFERKASH_OK, 0, BYTES(SHORT)},
+    {"room one short", BYTES(EXAMPLE_TEXT), 1, 38, NOFERKASH_ROOM_TOO_SMALL, 0, BYTES(SHORT)},
+    {"room one short, manner 0", BYTES(EXAMPLE_TEXT), 0, 39, NOFERKASH_ROOM_TOO_SMALL, 0,
+     BYTES(FULL)},
+    {"room of one byte", BYTES(EXAMPLE_TEXT), 0, 1, NOFERKASH_ROOM_TOO_SMALL, 0, BYTES(FULL)},
+    {"room of none", BYTES(EXAMPLE_TEXT), 1, 0, NOFERKASH_ROOM_TOO_SMALL, 0, BYTES(SHORT)},
+    {"every kind", BYTES(TEXT(EVERY_KIND_LINES)), 1, 200, NOFERKASH_OK, 0,
+     BYTES(TRACK("\x90", EVERY_KIND END))},
+    {"greatest step", BYTES(HEADER_LINE START_LINE "1, 268435455, End_track\n0, 0, End_of_file\n"),
+     1, 29, NOFERKASH_OK, 0, BYTES(TRACK("\7", "\xFF\xFF\xFF\x7F\xFF\x2F\0"))},
+    {"two tracks, the status in the next one",
+     BYTES("0, 0, Header, 1, 2, 96\n1, 0, Start_track\n1, 7, Note_on_c, 0, 60, 64\n"
+           "1, 7, End_track\n2, 0, Start_track\n2, 1, Note_on_c, 0, 60, 0\n"
+           "2, 3, Note_on_c, 0, 60, 0\n2, 6, End_track\n0, 0, End_of_file\n"), 1, 100,
+     NOFERKASH_OK, 0,
+     BYTES(TWO_TRACKS CHUNK("\10", "\7\x90\x3C\x40" END)
+           CHUNK("\13", "\1\x90\x3C\0\2\x3C\0" "\3\xFF\x2F\0"))},
+    {"loosely spelled",
+     BYTES("# one\r\n\n\t0 ,-0,HEADER,00,0000000001, 96\n; two\n01,0, start_TRACK\r\n"
+           "1,0,title_t,\"\\101\"\"\" \n \t\n1,0,note_on_c,0,060,64\r\n1,96,NOTE_ON_C,0,60,0\n"
+           "1,96,End_Track\n0,0,End_Of_File\r"), 1, 39, NOFERKASH_OK, 0, BYTES(SHORT)},
+    {"\\377 and \\000",
+     GOOD_THIRD("1, 0, Text_t, \"\\377\\000\"", "\12", "\xFF\1\2\xFF\0")},
+    {"key -7", GOOD_THIRD("1, 0, Key_signature, -7, \"mino\\162\"", "\12", "\xFF\x59\2\xF9\1")},
+    {"ten digits", GOOD_THIRD("1, 0, Tempo, 0016777215", "\13", "\xFF\x51\3\xFF\xFF\xFF")},
+
+    {"\\400", BAD_THIRD("1, 0, Text_t, \"\\400\"", NOFERKASH_BAD_FIELD)},
+    {"eleven digits", BAD_THIRD("1, 0, Tempo, 00000000001", NOFERKASH_BAD_FIELD)},
+    {"4294967296", BAD_THIRD("1, 0, Tempo, 4294967296", NOFERKASH_BAD_FIELD)},
+    {"a comma too many", BAD_THIRD("1, 0, Tempo, 1,", NOFERKASH_BAD_FIELD)},
+    {"a quote unended", BAD_THIRD("1, 0, Text_t, \"a", NOFERKASH_BAD_FIELD)},
+    {"CR in quotes", BAD_THIRD("1, 0, Text_t, \"a\rb\"", NOFERKASH_BAD_FIELD)},
+    {"a letter too many", BAD_THIRD("1, 0, Tempos, 1", NOFERKASH_UNKNOWN_RECORD)},
+    {"a quoted name", BAD_THIRD("1, 0, \"Tempo\", 1", NOFERKASH_UNKNOWN_RECORD)},
+    {"a field too few", BAD_THIRD("1, 0, Note_on_c, 0, 60", NOFERKASH_WRONG_FIELD_COUNT)},
+    {"two fields", BAD_THIRD("1, 0", NOFERKASH_WRONG_FIELD_COUNT)},
+    {"Length too great", BAD_THIRD("1, 0, System_exclusive, 2, 1", NOFERKASH_WRONG_FIELD_COUNT)},
+    {"Length -1", BAD_THIRD("1, 0, System_exclusive, -1", NOFERKASH_FIELD_OUT_OF_RANGE)},
+    {"Tempo 0", BAD_THIRD("1, 0, Tempo, 0", NOFERKASH_FIELD_OUT_OF_RANGE)},
+    {"key 8", BAD_THIRD("1, 0, Key_signature, 8, \"major\"", NOFERKASH_FIELD_OUT_OF_RANGE)},
+    {"Major", BAD_THIRD("1, 0, Key_signature, 0, \"Major\"", NOFERKASH_FIELD_OUT_OF_RANGE)},
+    {"Unknown_meta_event 47",
+     BAD_THIRD("1, 0, Unknown_meta_event, 47, 0", NOFERKASH_FIELD_OUT_OF_RANGE)},
+    {"Unknown_meta_event 128",
+     BAD_THIRD("1, 0, Unknown_meta_event, 128, 0", NOFERKASH_FIELD_OUT_OF_RANGE)},
+    {"Track 65536", BAD_THIRD("65536, 0, Tempo, 1", NOFERKASH_FIELD_OUT_OF_RANGE)},
+    {"format 0 with 2 tracks", BAD("0, 0, Header, 0, 2, 96\n", NOFERKASH_FIELD_OUT_OF_RANGE, 1)},
+    {"65536 tracks", BAD("0, 0, Header, 1, 65536, 96\n", NOFERKASH_FIELD_OUT_OF_RANGE, 1)},
+    {"wrong Track", BAD_THIRD("2, 0, Tempo, 1", NOFERKASH_RECORD_OUT_OF_ORDER)},
+    {"Time falls",
+     BAD(HEADER_LINE START_LINE "1, 5, Tempo, 1\n1, 4, End_track\n",
+         NOFERKASH_RECORD_OUT_OF_ORDER, 4)},
+    {"fewer tracks than counted",
+     BAD("0, 0, Header, 1, 2, 96\n" START_LINE END_LINES, NOFERKASH_RECORD_OUT_OF_ORDER, 4)},
+    {"Header at Time 1", BAD("0, 1, Header, 0, 1, 96\n", NOFERKASH_RECORD_OUT_OF_ORDER, 1)},
+    {"a record after End_of_file",
+     BAD(TEXT("") "0, 0, End_of_file\n", NOFERKASH_RECORD_OUT_OF_ORDER, 5)},
+    {"a comment, then a fault after End_of_file",
+     BAD(TEXT("") "#\n+", NOFERKASH_BAD_FIELD, 6)},
+    {"step too great", BAD_THIRD("1, 268435456, Tempo, 1", NOFERKASH_STEP_TOO_GREAT)},
+    {"empty text", BAD("", NOFERKASH_TEXT_CUT_SHORT, 1)},
+    {"CR alone", BAD("\r", NOFERKASH_TEXT_CUT_SHORT, 2)},
+    {"no End_of_file", BAD(HEADER_LINE START_LINE "1, 0, End_track", NOFERKASH_TEXT_CUT_SHORT, 4)},
+    {"manner 2", BYTES(EXAMPLE_TEXT), 2, 100, NOFERKASH_BAD_MANNER, 0, NOTHING},
+    {"manner 255, a fault, no room", BYTES("+"), 255, 0, NOFERKASH_BAD_MANNER, 0, NOTHING},
+    {"manner 256", BYTES(EXAMPLE_TEXT), 256, 100, NOFERKASH_BAD_MANNER, 0, NOTHING},
+    {"manner 2^32 - 1", BYTES(EXAMPLE_TEXT), 0xFFFFFFFF, 100, NOFERKASH_BAD_MANNER, 0, NOTHING},
+    {"a fault, and no room", BYTES(TEXT("") "+"), 0, 0, NOFERKASH_BAD_FIELD, 5, NOTHING}
+};
+
 static unsigned count, failed;
 
 static void try_case(const char *what, const uint8_t *file, size_t length, int number, size_t place)
@@ -231,7 +325,7 @@ static int untouched(const uint8_t *start, const uint8_t *end)
     return start == end;
 }
 
-/* An operation that takes a file and writes into lent room. */
+/* An operation that takes a file or a text and writes into lent room. */
 struct operation {
     const char *name;
     uint64_t (*run)(const uint8_t *file, size_t file_len, uint8_t *out, size_t out_len);
@@ -240,11 +334,21 @@ struct operation {
 static const struct operation tidy = {"tidy", noferkash_tidy};
 static const struct operation to_text = {"file_to_text", noferkash_file_to_text};
 
+/* The manner in which `to_file` runs. */
+static uint32_t manner;
+
+static uint64_t run_to_file(const uint8_t *text, size_t text_len, uint8_t *out, size_t out_len)
+{
+    return noferkash_text_to_file(text, text_len, manner, out, out_len);
+}
+
+static const struct operation to_file = {"text_to_file", run_to_file};
+
 static void try_written(const struct operation *operation, const char *what, const uint8_t *file,
                         size_t length, size_t room, int number, size_t place, const uint8_t *due,
                         size_t due_length)
 {
-    static uint8_t lent[FENCE + TEXT_LIMIT + FENCE], given[LIMIT + 1];
+    static uint8_t lent[FENCE + TEXT_LIMIT + FENCE], given[READ_LIMIT + 1];
     uint8_t *out = lent + FENCE;
     size_t written = number == NOFERKASH_OK ? due_length : 0;
     uint64_t answer;
@@ -371,8 +475,71 @@ static void text_limit_cases(uint8_t *file)
                 NOFERKASH_BAD_META_LENGTH, LIMIT - 4, due, 0);
 }
 
+static void read_cases(void)
+{
+    const struct read_case *c = file_cases;
+    size_t cases_left = sizeof file_cases / sizeof file_cases[0];
+
+    for (; cases_left > 0; cases_left--, c++) {
+        manner = c->manner;
+        try_written(&to_file, c->what, (const uint8_t *)c->bytes, c->length, c->room, c->number,
+                    c->place, (const uint8_t *)c->due, c->due_length);
+    }
+}
+
+/* A file of `length` bytes with data as `fill` makes it, its length in three bytes;
+ * and its text, whose length is the answer. */
+static size_t filled_and_text(uint8_t *file, char *text, size_t length)
+{
+    fill(file, length + 1);
+    memmove(file + 24, file + 25, length - 24);
+    file[19] = (uint8_t)((length - 22) >> 16);
+    file[20] = (uint8_t)((length - 22) >> 8);
+    file[21] = (uint8_t)(length - 22);
+    return text_of_filled(text, length + 1);
+}
+
+static void read_limit_cases(uint8_t *file)
+{
+    static uint8_t text[READ_LIMIT + 1];
+    static const char whole[] = TEXT("");
+    const uint8_t *only_end = (const uint8_t *)ONLY_END;
+    size_t length = filled_and_text(file, (char *)text, LIMIT);
+
+    manner = 1;
+    try_written(&to_file, "a file at the limit", text, length, LIMIT, NOFERKASH_OK, 0, file,
+                LIMIT);
+    try_written(&to_file, "a file at the limit", text, length, LIMIT - 1,
+                NOFERKASH_ROOM_TOO_SMALL, 0, file, LIMIT);
+    manner = 0;
+    try_written(&to_file, "a file at the limit, manner 0", text, length, LIMIT + 9, NOFERKASH_OK,
+                0, file, LIMIT);
+    length = text_of_filled((char *)text, LIMIT + 2);
+    try_written(&to_file, "a file past the limit", text, length, LIMIT + 1,
+                NOFERKASH_WRITTEN_TOO_LONG, 0, file, 0);
+    text[length - 1] = '+';
+    try_written(&to_file, "a file past the limit, a fault in the last line", text, length, 0,
+                NOFERKASH_BAD_FIELD, 5, file, 0);
+
+    memset(text, '#', READ_LIMIT + 1);
+    memcpy(text, whole, sizeof whole - 1);
+    manner = 1;
+    try_written(&to_file, "a text at the limit", text, READ_LIMIT, 26, NOFERKASH_OK, 0, only_end,
+                26);
+    try_written(&to_file, "a text past the limit", text, READ_LIMIT + 1, 26,
+                NOFERKASH_TEXT_TOO_LONG, 0, only_end, 0);
+    manner = 3;
+    try_written(&to_file, "a text past the limit, manner 3", text, READ_LIMIT + 1, 26,
+                NOFERKASH_BAD_MANNER, 0, only_end, 0);
+    manner = 0;
+    memset(text, '\n', READ_LIMIT);
+    try_written(&to_file, "nothing but LF, the limit", text, READ_LIMIT, 26,
+                NOFERKASH_TEXT_CUT_SHORT, READ_LIMIT + 1, only_end, 0);
+}
+
 int main(void)
 {
+    /* One more than any file tried, for `filled_and_text`. */
     static uint8_t file[LIMIT + 1];
 
     printf("noferkash %s\n", NOFERKASH_VERSION);
@@ -381,6 +548,8 @@ int main(void)
     tidy_limit_cases(file);
     try_cases(&to_text, text_cases, sizeof text_cases / sizeof text_cases[0]);
     text_limit_cases(file);
+    read_cases();
+    read_limit_cases(file);
 
     printf("%u cases, %u failed\n", count, failed);
     return failed != 0;

@@ -12,6 +12,13 @@ extern "C" {
         out: *mut u8,
         out_len: usize,
     ) -> u64;
+    fn noferkash_text_to_file(
+        text: *const u8,
+        text_len: usize,
+        manner: u32,
+        out: *mut u8,
+        out_len: usize,
+    ) -> u64;
     fn noferkash_tidy(file: *const u8, file_len: usize, out: *mut u8, out_len: usize) -> u64;
 }
 
@@ -25,6 +32,13 @@ pub fn check(file: &mut [u8]) -> u64 {
 pub fn file_to_text(file: &mut [u8], room: &mut [u8]) -> u64 {
     // Safe as above; two slices lent to be written do not overlap.
     unsafe { noferkash_file_to_text(file.as_mut_ptr(), file.len(), room.as_mut_ptr(), room.len()) }
+}
+
+/// The packed answer; on success `room` begins with the file.
+pub fn text_to_file(text: &mut [u8], manner: u32, room: &mut [u8]) -> u64 {
+    let (out, out_len) = (room.as_mut_ptr(), room.len());
+    // Safe as above.
+    unsafe { noferkash_text_to_file(text.as_mut_ptr(), text.len(), manner, out, out_len) }
 }
 
 /// The packed answer; on success `room` begins with the tidied file.

@@ -18,13 +18,17 @@ pub struct Operation {
     /// So many bytes of room for each byte of input are always enough, and a
     /// program may go another way there; 0 if no such number is known.
     pub enough: usize,
+    /// Whether the manner counts.
+    pub manners: bool,
 }
 
 /// What the two did alike.
 #[derive(Clone, Copy, Debug, PartialEq, Eq)]
 pub struct Met {
     pub number: u8,
+    pub place: usize,
     pub room: Room,
+    pub manner: u32,
 }
 
 /// The lent room beside the length needed.
@@ -87,7 +91,19 @@ impl Operation {
             // Refused input gets room too, in which a writer in haste would show.
             _ => room(rng, input.len().min(REFUSED_ROOM)),
         };
+        self.compare_in(rng, input, manner, room, asked.length)
+    }
 
+    /// Runs both in this manner and room, beside the room needed (0 if nothing is to
+    /// be written); `rng` chooses only where the bytes lie.
+    pub fn compare_in(
+        &self,
+        rng: &mut Rng,
+        input: &[u8],
+        manner: u32,
+        room: usize,
+        needed: usize,
+    ) -> Result<Met, Difference> {
         let mut given = Fenced::new(input, rng.index(8));
         let before = given.bytes.clone();
         let mut due = Fenced::new(&vec![FILL; room], rng.index(8));
@@ -102,8 +118,9 @@ impl Operation {
         } else if made.bytes != due.bytes {
             "room or the bytes round it"
         } else {
-            let number = Answer::unpacked(second).number;
-            return Ok(Met { number, room: Room::of(room, asked.length, enough) });
+            let Answer { number, place, .. } = Answer::unpacked(second);
+            let room = Room::of(room, needed, self.enough * input.len());
+            return Ok(Met { number, place, room, manner });
         };
         Err(Difference { what, second, archive, manner, room })
     }

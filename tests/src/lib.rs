@@ -16,6 +16,7 @@ pub mod piece;
 pub mod read_file;
 pub mod read_text;
 pub mod refusal;
+pub mod run;
 pub mod spelling;
 pub mod text_field;
 pub mod text_record;

@@ -9,6 +9,7 @@ const GOOD: Operation = Operation {
     second: |file, _, room| tidy(file, room),
     archive: |file, _, room| tidy(file, room).packed(),
     enough: 0,
+    manners: false,
 };
 
 type Archive = fn(&mut [u8], u32, &mut [u8]) -> u64;
@@ -78,6 +79,7 @@ fn manner_and_room_reach_both() {
         second: text_to_file,
         archive: |text, manner, room| text_to_file(text, manner, room).packed(),
         enough: 0,
+        manners: true,
     };
     let met: Vec<Met> =
         (0..500).map(|seed| operation.compare(seed, &text_case(seed)).unwrap()).collect();
@@ -98,6 +100,7 @@ fn rooms_that_are_always_enough_are_met() {
         second: |file, _, room| file_to_text(file, room),
         archive: |file, _, room| file_to_text(file, room).packed(),
         enough: 25,
+        manners: false,
     };
     let met: Vec<Met> =
         (0..500).map(|seed| TEXT.compare(seed, &file_case(seed)).unwrap()).collect();

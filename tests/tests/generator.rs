@@ -6,7 +6,8 @@ use std::collections::{BTreeMap, BTreeSet};
 
 use common::to_text;
 use second::generate::{
-    benchmark_file, file_case, limit_cases, manner, piece, room, text_case, Rng,
+    aims, benchmark_file, file_case, limit_cases, manner, piece, room, text_case, text_limit_cases,
+    Rng,
 };
 use second::number::read_variable;
 use second::operations::{check, file_to_text, text_to_file};
@@ -125,6 +126,26 @@ fn files_at_the_limit_are_as_said() {
     }
 }
 
+#[test]
+fn texts_at_the_limits_are_as_said() {
+    let cases = text_limit_cases();
+    for case in &cases {
+        let text = case.text();
+        for (manner, due) in case.due.into_iter().enumerate() {
+            let answer = text_to_file(&text, manner as u32, &mut []);
+            assert_eq!(answer, due, "{}, manner {manner}", case.what);
+        }
+        let over = text.len() > 33_554_432;
+        assert_eq!(over, case.due[0].number == 21, "{}, {} bytes", case.what, text.len());
+    }
+    let sizes: BTreeSet<usize> =
+        cases.iter().map(|case| case.text().len()).filter(|size| *size > 33_000_000).collect();
+    assert_eq!(sizes, BTreeSet::from([33_554_432, 33_554_433]));
+    let needed: BTreeSet<usize> =
+        cases.iter().flat_map(|case| case.due.map(|due| due.length)).collect();
+    assert_eq!(needed, BTreeSet::from([0, 26, 786_434, 1_048_575, 1_048_576]));
+}
+
 fn fnv(bytes: &[u8]) -> u64 {
     let step = |hash: u64, byte: &u8| (hash ^ u64::from(*byte)).wrapping_mul(0x100_0000_01B3);
     bytes.iter().fold(0xCBF2_9CE4_8422_2325, step)
@@ -160,9 +181,15 @@ fn seeds_give_what_they_gave() {
         let bytes: Vec<u8> = (0..500).flat_map(|seed| fnv(&make(seed)).to_be_bytes()).collect();
         fnv(&bytes)
     };
-    let hashes = [hash(file_case), hash(text_case), fnv(&benchmark_file())];
+    let aimed: Vec<u8> = aims()
+        .iter()
+        .enumerate()
+        .flat_map(|(seed, aim)| fnv(&aim.text(&mut Rng::new(seed as u64)).text).to_be_bytes())
+        .collect();
+    let hashes = [hash(file_case), hash(text_case), fnv(&benchmark_file()), fnv(&aimed)];
     println!("{hashes:016x?}");
     assert_eq!(hashes, PINNED, "pin anew if the generator was changed on purpose");
 }
 
-const PINNED: [u64; 3] = [0xf3c2_ee0c_b167_5a69, 0x255e_fdf4_429a_07b3, 0x80ca_d4ff_450a_95d7];
+const PINNED: [u64; 4] =
+    [0xf3c2_ee0c_b167_5a69, 0x255e_fdf4_429a_07b3, 0x80ca_d4ff_450a_95d7, 0x0eef_715d_ac33_2038];

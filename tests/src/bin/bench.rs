@@ -1,7 +1,7 @@
 //! bench: the proved archive's times beside those of others, on the benchmark
 //! file, medians of ten in one run, buffers warm. The others are the second
-//! program, the converter made for speed (`fast_text`) and, where it is installed,
-//! midicsv.
+//! program, the converter made for speed (`fast_text`) and, where they are installed,
+//! midicsv and csvmidi.
 
 use std::env;
 use std::fs;
@@ -28,7 +28,8 @@ fn main() {
         bench.check();
         bench.tidy();
         bench.text();
-        bench.midicsv();
+        bench.back();
+        bench.commands();
     }
     bench.report();
 }
@@ -40,7 +41,8 @@ struct Bench {
     /// In so much room any file's text fits, and ours measures nothing first.
     room: Vec<u8>,
     fast_room: Vec<u8>,
-    midicsv: Option<Midicsv>,
+    midicsv: Option<Outside>,
+    csvmidi: Option<Outside>,
     check: [Vec<Duration>; 2],
     tidy: [Vec<Duration>; 2],
     /// Ours in room that is always enough and in exact room; then the others.
@@ -48,7 +50,10 @@ struct Bench {
     exact: Vec<Duration>,
     second: Vec<Duration>,
     fast: Vec<Duration>,
-    command: Vec<Duration>,
+    by_midicsv: Vec<Duration>,
+    /// The text back to the file, in exact room: ours, the second program's.
+    back: [Vec<Duration>; 2],
+    by_csvmidi: Vec<Duration>,
 }
 
 impl Bench {
@@ -59,20 +64,24 @@ impl Bench {
         let text = room[..length].to_vec();
         let mut fast_room = Vec::new();
         fast_text::file_to_text(&file, &mut fast_room).expect("the benchmark file is good");
-        let midicsv = Midicsv::find(&file, &text);
+        let midicsv = Outside::find("midicsv", &file, &text);
+        let csvmidi = Outside::find("csvmidi", &text, &file);
         Bench {
             file,
             text,
             room,
             fast_room,
             midicsv,
+            csvmidi,
             check: Default::default(),
             tidy: Default::default(),
             enough: Vec::new(),
             exact: Vec::new(),
             second: Vec::new(),
             fast: Vec::new(),
-            command: Vec::new(),
+            by_midicsv: Vec::new(),
+            back: Default::default(),
+            by_csvmidi: Vec::new(),
         }
     }
 
@@ -118,9 +127,27 @@ impl Bench {
         assert!(fast_room == text, "the text is the same");
     }
 
-    fn midicsv(&mut self) {
+    /// The file is tidy, so manner 1 gives it again.
+    fn back(&mut self) {
+        let Bench { file, text, room, back: [ours, second], .. } = self;
+        let length = file.len();
+        let room = &mut room[..length];
+        room.fill(FILL);
+        ours.push(timed(length, || archive::text_to_file(black_box(text), 1, black_box(room))));
+        assert!(room == file, "the file is the same");
+        room.fill(FILL);
+        second.push(timed(length, || {
+            operations::text_to_file(black_box(text), 1, black_box(room)).packed()
+        }));
+        assert!(room == file, "the file is the same");
+    }
+
+    fn commands(&mut self) {
         if let Some(midicsv) = &self.midicsv {
-            self.command.push(timed(0, || midicsv.run(Path::new("/dev/null"))));
+            self.by_midicsv.push(timed(0, || midicsv.run(Path::new("/dev/null"))));
+        }
+        if let Some(csvmidi) = &self.csvmidi {
+            self.by_csvmidi.push(timed(0, || csvmidi.run(Path::new("/dev/null"))));
         }
     }
 
@@ -135,7 +162,7 @@ impl Bench {
         let mut others =
             vec![("second program", median(self.second)), ("fast Rust", median(self.fast))];
         if self.midicsv.is_some() {
-            others.push(("midicsv, a process", median(self.command)));
+            others.push(("midicsv, a process", median(self.by_midicsv)));
         }
         for (room, ours) in [("room 25n", median(self.enough)), ("exact room", median(self.exact))]
         {
@@ -143,44 +170,52 @@ impl Bench {
                 report(&format!("text, {room} / {other}"), ours, *time, bytes);
             }
         }
-        if self.midicsv.is_none() {
-            println!("midicsv is not installed");
+        let [ours, second] = self.back.map(median);
+        report("file, exact room / second program", ours, second, bytes);
+        if self.csvmidi.is_some() {
+            let time = median(self.by_csvmidi);
+            report("file, exact room / csvmidi, a process", ours, time, bytes);
+        }
+        for (name, found) in [("midicsv", self.midicsv), ("csvmidi", self.csvmidi)] {
+            if found.is_none() {
+                println!("{name} is not installed");
+            }
         }
     }
 }
 
-/// The program midicsv, and where the file is stored for it.
-struct Midicsv {
+/// The program midicsv or csvmidi, and where its input is stored.
+struct Outside {
+    program: &'static str,
     folder: PathBuf,
 }
 
-impl Midicsv {
-    /// If it is installed; its text must be the same.
-    fn find(file: &[u8], text: &[u8]) -> Option<Midicsv> {
-        let folder = env::temp_dir().join(format!("noferkash-bench-{}", process::id()));
-        fs::create_dir(&folder).expect("a new folder for midicsv's files");
-        let midicsv = Midicsv { folder };
-        fs::write(midicsv.input(), file).expect("midicsv's input written");
-        let output = midicsv.folder.join("benchmark.csv");
-        let words = [midicsv.input(), output.clone()];
-        Command::new("midicsv").args(words).status().ok()?;
-        let made = fs::read(output).expect("midicsv's output");
-        assert!(made == text, "midicsv's text is the same");
-        Some(midicsv)
+impl Outside {
+    /// If it is installed; what it makes of the input must be the same.
+    fn find(program: &'static str, input: &[u8], due: &[u8]) -> Option<Outside> {
+        let folder = env::temp_dir().join(format!("noferkash-bench-{}-{program}", process::id()));
+        fs::create_dir(&folder).expect("a new folder for the program's files");
+        let outside = Outside { program, folder };
+        fs::write(outside.input(), input).expect("the program's input written");
+        let output = outside.folder.join("output");
+        Command::new(program).args([outside.input(), output.clone()]).status().ok()?;
+        let made = fs::read(output).expect("the program's output");
+        assert!(made == due, "{program} makes the same");
+        Some(outside)
     }
 
     fn input(&self) -> PathBuf {
-        self.folder.join("benchmark.mid")
+        self.folder.join("input")
     }
 
     /// From the start of the process to its end; 0 if it went well.
     fn run(&self, output: &Path) -> u64 {
-        let status = Command::new("midicsv").arg(self.input()).arg(output).status();
+        let status = Command::new(self.program).arg(self.input()).arg(output).status();
         u64::from(!status.is_ok_and(|status| status.success()))
     }
 }
 
-impl Drop for Midicsv {
+impl Drop for Outside {
     fn drop(&mut self) {
         // What is left there does no harm.
         let _ = fs::remove_dir_all(&self.folder);

@@ -1,34 +1,34 @@
 //! differential [CASES [FIRST_SEED]]: the proved archive against the second
-//! program. Exit 0 when all answers are the same, every number and room due was
-//! met and no other number, the generated files that texts were made of held all
-//! that is due, and outside files are tidied and written as text as they must be.
+//! program. Exit 0 when all answers are the same, every number, room, manner and aim
+//! due was met and no other number, the generated files and texts held all that is
+//! due, outside files and texts are converted as they must be, and what is converted
+//! forth and back is as it was.
 
-use std::collections::BTreeMap;
 use std::env;
-use std::fs;
-use std::ops::Range;
 use std::process::ExitCode;
-use std::time::Instant;
 
 use second::archive;
-use second::compare::{Met, Operation, Room};
-use second::coverage::Coverage;
-use second::generate::{benchmark_file, file_case, limit_cases, mutated_copy, Rng};
+use second::compare::Operation;
+use second::generate::{
+    aims, benchmark_file, file_case, good_file, limit_cases, mutated_copy, mutated_text, piece,
+    plain_text, text_case, text_limit_cases, Rng,
+};
 use second::operations;
 use second::outside::{expected, has_film_division, outside_files};
 use second::read_file::read_file;
+use second::read_text::read_text;
 use second::refusal::Answer;
+use second::run::{Run, GENERATED};
 
 const USAGE: &str = "usage: differential [CASES [FIRST_SEED]]";
 const CASES: u64 = 500_000;
-/// Of a run with many differences only so many are shown and kept.
-const SHOWN: u64 = 10;
 
 const CHECK: Operation = Operation {
     name: "check",
     second: |file, _, _| operations::check(file),
     archive: |file, _, _| archive::check(file),
     enough: 0,
+    manners: false,
 };
 
 const TIDY: Operation = Operation {
@@ -36,6 +36,7 @@ const TIDY: Operation = Operation {
     second: |file, _, room| operations::tidy(file, room),
     archive: |file, _, room| archive::tidy(file, room),
     enough: 0,
+    manners: false,
 };
 
 const TEXT: Operation = Operation {
@@ -43,6 +44,15 @@ const TEXT: Operation = Operation {
     second: |file, _, room| operations::file_to_text(file, room),
     archive: |file, _, room| archive::file_to_text(file, room),
     enough: 25,
+    manners: false,
+};
+
+const FILE: Operation = Operation {
+    name: "text_to_file",
+    second: operations::text_to_file,
+    archive: archive::text_to_file,
+    enough: 0,
+    manners: true,
 };
 
 fn main() -> ExitCode {
@@ -55,12 +65,16 @@ fn main() -> ExitCode {
     // takes no more bytes than the spelling it had. So 29 counts as a fault here.
     let written: Vec<u8> = (0..=14).collect();
     let good = [
-        on_files(&CHECK, &read, cases, first),
-        on_files(&TIDY, &written, cases / 2, first),
-        on_files(&TEXT, &written, cases / 4, first),
+        on_files(Run::of(&CHECK), &read, cases, first),
+        on_files(Run::of(&TIDY), &written, cases / 2, first),
+        on_files(Run::holding(&TEXT, read_file), &written, cases / 4, first),
+        on_texts(cases / 4, first),
         outside_tidied(),
         tidied_twice(cases / 10, first),
         outside_texts(),
+        outside_back(),
+        files_forth_and_back(cases / 10, first),
+        texts_forth_and_back(cases / 10, first),
     ];
     if good.contains(&false) {
         return ExitCode::FAILURE;
@@ -83,24 +97,41 @@ fn numbers_given() -> Option<(u64, u64)> {
     first.checked_add(cases).map(|_| (cases, first))
 }
 
-/// Compares an operation that takes a file; `due` are the numbers to be met, and
-/// no others. With 14 among them every room due must be met too, and where some
-/// room is always enough, every other number in that room.
-fn on_files(operation: &Operation, due: &[u8], cases: u64, first: u64) -> bool {
+/// Compares an operation that takes a file; `due` are the numbers to be met.
+fn on_files(mut run: Run, due: &[u8], cases: u64, first: u64) -> bool {
     let outside: Vec<Vec<u8>> = outside_files().into_iter().map(|(_, file)| file).collect();
     let limits: Vec<Vec<u8>> = limit_cases().into_iter().map(|case| case.file).collect();
     let long = benchmark_file();
-    let mutated = |seed: u64, file: &[u8]| mutated_copy(&mut Rng::new(seed), file);
 
-    let mut run = Run::of(operation);
     run.source(GENERATED, first..first + cases, file_case);
     run.source("limits", 0..limits.len() as u64, |index| limits[index as usize].clone());
     run.source("outside", 0..outside.len() as u64, |index| outside[index as usize].clone());
+    let count = outside.len() as u64;
     run.source("damaged", first..first + cases / 4, |seed| {
-        mutated(seed, &outside[(seed % outside.len() as u64) as usize])
+        mutated_copy(&mut Rng::new(seed), &outside[(seed % count) as usize])
     });
-    run.source("long", first..first + cases / 400, |seed| mutated(seed, &long));
+    run.source("long", first..first + cases / 400, |seed| mutated_copy(&mut Rng::new(seed), &long));
     run.report(due)
+}
+
+/// Compares text_to_file.
+fn on_texts(cases: u64, first: u64) -> bool {
+    let outside: Vec<Vec<u8>> =
+        outside_files().iter().map(|(name, _)| expected(name, "csv")).collect();
+    let long = made(archive::file_to_text, &benchmark_file()).expect("the benchmark's text");
+
+    let mut run = Run::holding(&FILE, read_text);
+    run.source(GENERATED, first..first + cases, text_case);
+    run.aimed("aimed", first..first + cases, &aims());
+    run.limits("limits", &text_limit_cases());
+    run.source("outside", 0..outside.len() as u64, |index| outside[index as usize].clone());
+    let count = outside.len() as u64;
+    run.source("damaged", first..first + cases / 4, |seed| {
+        mutated_text(&mut Rng::new(seed), &outside[(seed % count) as usize])
+    });
+    run.source("long", first..first + cases / 400, |seed| mutated_text(&mut Rng::new(seed), &long));
+    let due: Vec<u8> = [0, 14].into_iter().chain(21..=30).collect();
+    run.report(&due)
 }
 
 /// Outside files tidy to what csvmidi makes of their text, whatever their
@@ -165,6 +196,77 @@ fn outside_texts() -> bool {
     faults == 0
 }
 
+/// The texts that midicsv made give the files that csvmidi made of them, in both
+/// manners; film divisions are no numbers of the range.
+fn outside_back() -> bool {
+    let (mut texts, mut films, mut faults) = (0, 0, 0);
+    for (name, _) in outside_files() {
+        let text = expected(&name, "csv");
+        let film = has_film_division(&name);
+        *if film { &mut films } else { &mut texts } += 1;
+        for (manner, ending) in [(0, "full.mid"), (1, "short.mid")] {
+            let due = match film {
+                true => Err(Answer { number: 25, place: 1, length: 0 }),
+                false => Ok(expected(&name, ending)),
+            };
+            if filed(&text, manner) != due {
+                faults += 1;
+                println!("FAULT: outside text {name} has not csvmidi's file in manner {manner}");
+            }
+        }
+    }
+    println!("text_to_file: {texts} outside texts in 2 manners, {films} refused, {faults} faults");
+    faults == 0
+}
+
+/// Of the archive alone: a good file's text gives the tidied file in manner 1, and in
+/// manner 0 a file of the same text.
+fn files_forth_and_back(cases: u64, first: u64) -> bool {
+    let (mut count, mut faults) = (0, 0);
+    for seed in first..first + cases {
+        let file = good_file(&mut Rng::new(seed));
+        let Ok(text) = made(archive::file_to_text, &file) else {
+            faults += 1;
+            println!("FAULT: the good file of seed {seed} is refused");
+            continue;
+        };
+        count += 1;
+        let full = filed(&text, 0).and_then(|full| made(archive::file_to_text, &full));
+        if filed(&text, 1) != tidied(&file) || full.as_ref() != Ok(&text) {
+            faults += 1;
+            println!("FAULT: the good file of seed {seed} does not come back from its text");
+        }
+    }
+    println!("text_to_file: {count} good files to text and back, {faults} faults");
+    faults == 0 && count > 0
+}
+
+/// Of the archive alone: a text as document 01 writes it comes back from its file, in
+/// either manner.
+fn texts_forth_and_back(cases: u64, first: u64) -> bool {
+    let mut faults = 0;
+    for seed in first..first + cases {
+        let text = plain_text(&piece(&mut Rng::new(seed)));
+        for manner in [0, 1] {
+            let back = filed(&text, manner).and_then(|file| made(archive::file_to_text, &file));
+            if back.as_ref() != Ok(&text) {
+                faults += 1;
+                println!("FAULT: the text of seed {seed} does not come back in manner {manner}");
+            }
+        }
+    }
+    println!("text_to_file: {cases} texts to file and back in 2 manners, {faults} faults");
+    faults == 0 && cases > 0
+}
+
+/// The file that the archive makes of a text.
+fn filed(text: &[u8], manner: u32) -> Result<Vec<u8>, Answer> {
+    match manner {
+        0 => made(|text, room| archive::text_to_file(text, 0, room), text),
+        _ => made(|text, room| archive::text_to_file(text, 1, room), text),
+    }
+}
+
 /// What the archive tidies a file to.
 fn tidied(file: &[u8]) -> Result<Vec<u8>, Answer> {
     made(archive::tidy, file)
@@ -193,157 +295,5 @@ fn made_in(file: &[u8], size: usize) -> Result<Vec<u8>, Answer> {
             Ok(room)
         }
         answer => Err(answer),
-    }
-}
-
-/// What one operation answered, source by source.
-struct Run<'a> {
-    operation: &'a Operation,
-    sources: Vec<Source>,
-    differences: u64,
-    started: Instant,
-}
-
-/// The source that is to hold all that `Coverage` has.
-const GENERATED: &str = "generated";
-
-struct Source {
-    name: &'static str,
-    seeds: Range<u64>,
-    /// How often both programs answered each number in each kind of room.
-    met: BTreeMap<(u8, Room), u64>,
-    /// What the files held that were written in some way.
-    held: Coverage,
-}
-
-impl Source {
-    fn cases(&self) -> u64 {
-        self.seeds.end - self.seeds.start
-    }
-
-    fn count(&self, wanted: impl Fn(u8, Room) -> bool) -> u64 {
-        let met = self.met.iter().filter(|((number, room), _)| wanted(*number, *room));
-        met.map(|(_, count)| count).sum()
-    }
-}
-
-impl Run<'_> {
-    fn of(operation: &Operation) -> Run<'_> {
-        Run { operation, sources: Vec::new(), differences: 0, started: Instant::now() }
-    }
-
-    fn source(&mut self, name: &'static str, seeds: Range<u64>, make: impl Fn(u64) -> Vec<u8>) {
-        let (mut met, mut held) = (BTreeMap::new(), Coverage::default());
-        for seed in seeds.clone() {
-            let input = make(seed);
-            match self.operation.compare(seed, &input) {
-                Ok(Met { number, room }) => {
-                    *met.entry((number, room)).or_insert(0) += 1;
-                    if number == 0 && self.holds_all(name) {
-                        held.add(&read_file(&input).expect("both programs read it"));
-                    }
-                }
-                Err(difference) => {
-                    self.differences += 1;
-                    if self.differences <= SHOWN {
-                        let kept = keep(self.operation.name, name, seed, &input);
-                        println!("DIFFERENCE in {name}, seed {seed}: {difference}\n    {kept}");
-                    }
-                }
-            }
-        }
-        self.sources.push(Source { name, seeds, met, held });
-    }
-
-    /// Whether this source's files must hold all that is due: those of texts.
-    fn holds_all(&self, source: &str) -> bool {
-        self.operation.name == TEXT.name && source == GENERATED
-    }
-
-    fn total(&self, wanted: impl Fn(u8, Room) -> bool) -> u64 {
-        self.sources.iter().map(|source| source.count(&wanted)).sum()
-    }
-
-    /// Prints the table and the verdict; true if it is good.
-    fn report(&self, due: &[u8]) -> bool {
-        let name = self.operation.name;
-        println!("{name}: archive against second program, {:.0} seconds", self.seconds());
-        self.row("source", |source| source.name.to_owned());
-        self.row("seeds", |source| format!("{}..{}", source.seeds.start, source.seeds.end));
-        let total = |number: u8| self.total(|met, _| met == number);
-        for number in (0..=255).filter(|number| due.contains(number) || total(*number) > 0) {
-            self.row(&number.to_string(), |source| {
-                source.count(|met, _| met == number).to_string()
-            });
-        }
-        self.row("cases", |source| source.cases().to_string());
-
-        let missing: Vec<&u8> = due.iter().filter(|number| total(**number) == 0).collect();
-        let undue: Vec<u8> =
-            (0..=255).filter(|number| !due.contains(number) && total(*number) > 0).collect();
-        let mut unmet = if due.contains(&14) { self.rooms(due) } else { Vec::new() };
-        unmet.extend(self.not_held());
-        let cases: u64 = self.sources.iter().map(Source::cases).sum();
-        println!("{name}: {cases} cases, {} differences", self.differences);
-        println!("{name}: never met: {missing:?} {unmet:?}, met but not due: {undue:?}");
-        self.differences == 0 && missing.is_empty() && undue.is_empty() && unmet.is_empty()
-    }
-
-    /// Prints how often each kind of room was met; what was due of them but never
-    /// met.
-    fn rooms(&self, due: &[u8]) -> Vec<String> {
-        let mut kinds = Room::DUE.to_vec();
-        if self.operation.enough > 0 {
-            kinds.extend([Room::Enough, Room::UnderEnough]);
-        }
-        for kind in kinds.iter().copied().chain([Room::Smaller, Room::Unused]) {
-            let count = |source: &Source| source.count(|_, room| room == kind);
-            self.row(&format!("{kind:?}"), |source| count(source).to_string());
-        }
-        let mut unmet = Vec::new();
-        for kind in kinds {
-            if self.total(|_, room| room == kind) == 0 {
-                unmet.push(format!("{kind:?}"));
-            }
-        }
-        if self.operation.enough > 0 {
-            let enough = |number: u8| self.total(|met, room| met == number && room == Room::Enough);
-            let due: Vec<u8> = due.iter().copied().filter(|number| *number != 14).collect();
-            let counts: Vec<String> =
-                due.iter().map(|number| format!("{number}: {}", enough(*number))).collect();
-            println!("  numbers in room Enough: {}", counts.join(", "));
-            let never = due.iter().filter(|number| enough(**number) == 0);
-            unmet.extend(never.map(|number| format!("{number} in room Enough")));
-        }
-        unmet
-    }
-
-    /// What the files of this run were to hold and did not.
-    fn not_held(&self) -> Vec<String> {
-        let mut missing = Vec::new();
-        for source in self.sources.iter().filter(|source| self.holds_all(source.name)) {
-            println!("  {} files written held {}", source.name, source.held.summary());
-            missing.extend(source.held.missing());
-        }
-        missing
-    }
-
-    fn row(&self, title: &str, cell: impl Fn(&Source) -> String) {
-        let cells: String =
-            self.sources.iter().map(|source| format!(" {:>18}", cell(source))).collect();
-        println!("  {title:<12}{cells}");
-    }
-
-    fn seconds(&self) -> f64 {
-        self.started.elapsed().as_secs_f64()
-    }
-}
-
-/// Writes an input that the programs differ on; says where it stands.
-fn keep(operation: &str, source: &str, seed: u64, input: &[u8]) -> String {
-    let path = env::temp_dir().join(format!("noferkash-{operation}-{source}-{seed}.input"));
-    match fs::write(&path, input) {
-        Ok(()) => format!("input: {} ({} bytes)", path.display(), input.len()),
-        Err(error) => format!("input not kept: {}: {error}", path.display()),
     }
 }

@@ -90,7 +90,13 @@ fn set_number(line: &mut Line, index: usize, set: impl Fn(i64) -> i64) {
 
 /// A text of `make` with some bytes changed, lost, doubled or put in.
 pub fn mutated(rng: &mut Rng, make: fn(&mut Rng) -> Vec<u8>) -> Vec<u8> {
-    let mut text = make(rng);
+    let text = make(rng);
+    mutated_text(rng, &text)
+}
+
+/// A copy of `text` changed so.
+pub fn mutated_text(rng: &mut Rng, text: &[u8]) -> Vec<u8> {
+    let mut text = text.to_vec();
     for _ in 0..rng.between(1, 3) {
         if rng.one_in(3) {
             mutate(rng, &mut text);

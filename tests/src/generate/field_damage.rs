@@ -4,7 +4,7 @@ use super::text_lines::{Field, Line};
 use super::Rng;
 
 /// Of none of the three shapes, each at a boundary of the rules.
-const SHAPELESS: [&[u8]; 34] = [
+pub const SHAPELESS: [&[u8]; 34] = [
     b"", b"+1", b"-", b"--1", b"- 1", b"1 2", b"1a", b"a1", b"0x10", b"1.0", b"12345678901",
     b"00000000001", b"-00000000000", b"4294967296", b"-4294967296", b"9999999999", b"a b",
     b"Note-on", b"caf\xE9", b"'a'", b"\"", b"\"a", b"\"a\"\"", b"\"a\"b", b"\"a\" \"b\"",
@@ -27,11 +27,15 @@ pub fn bad_shape(rng: &mut Rng, line: &mut Line) {
 pub fn bad_name(rng: &mut Rng, line: &mut Line) {
     let names =
         ["Note_on", "Headers", "_", "major", "Text", "End_tracks", "Unknown_meta", "Tempo_t"];
-    line[2] = match rng.below(4) {
+    let wrong = match rng.below(4) {
         0 => Field::Number(rng.below(100) as i64),
         1 => Field::Quoted(b"Tempo".to_vec()),
         _ => Field::Name(rng.pick(&names)),
     };
+    // Damage before this one may have left no third field.
+    if let Some(name) = line.get_mut(2) {
+        *name = wrong;
+    }
     if rng.one_in(4) {
         line.push(Field::Number(1));
     }

@@ -42,7 +42,7 @@ pub fn one_long_text(size: usize) -> Piece {
     }
 }
 
-fn many_tracks(count: usize) -> Piece {
+pub fn many_tracks(count: usize) -> Piece {
     let end = Event { time: Time::START, kind: Kind::EndTrack };
     Piece {
         format: Format::Together,

@@ -3,13 +3,16 @@
 //! - `file_case(seed)`: a file, good, damaged or random; aimed so that many
 //!   seeds together meet every refusal number 1..13.
 //! - `text_case(seed)`: a text likewise, for 21..29; `manner(rng)` gives 30.
+//! - `aims()`: boundaries of texts, each with makers of texts and the answer due.
 //! - `room(rng, needed)`: a size of lent room, now and then too small (14).
 //! - `piece(rng)`, `spelling(rng, piece)`: good pieces and permitted spellings.
 //! - `varied_text(rng, piece)`: a text of the piece, spelled loosely.
 //! - `benchmark_file()`: one file of nearly 1 MiB.
-//! - `limit_cases()`: files at the limit of size and past it, by hand.
-//! - `mutated_copy(rng, file)`: a file with some bytes changed.
+//! - `limit_cases()`, `text_limit_cases()`: files and texts at the limits of size and
+//!   past them, by hand.
+//! - `mutated_copy(rng, file)`, `mutated_text(rng, text)`: with some bytes changed.
 
+mod aims;
 mod at_limit;
 mod benchmark;
 mod damaged_file;
@@ -19,13 +22,17 @@ mod large;
 mod pieces;
 mod raw_file;
 mod rng;
+mod text_limits;
 mod text_lines;
 
+pub use aims::{aims, Aim, Aimed};
 pub use at_limit::{limit_cases, LimitCase};
 pub use benchmark::benchmark_file;
 pub use damaged_file::mutated_copy;
+pub use damaged_text::mutated_text;
 pub use pieces::{kind_of, piece, spelling, KINDS};
 pub use rng::Rng;
+pub use text_limits::{text_limit_cases, LimitText};
 pub use text_lines::{plain_text, varied_text};
 
 use crate::spelling::Manner;

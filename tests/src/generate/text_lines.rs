@@ -148,67 +148,108 @@ fn octal(byte: u8) -> [u8; 4] {
 }
 
 /// How loosely one text is spelled, so that not all looseness is in each.
-struct Looseness {
-    blanks: bool,
-    comments: bool,
-    cases: bool,
-    zeros: bool,
-    escapes: bool,
-    ends: u64,
+#[derive(Clone, Copy)]
+pub struct Looseness {
+    /// Those that stand round fields.
+    pub blanks: &'static [u8],
+    /// Lines that hold no record.
+    pub passed_over: &'static [&'static [u8]],
+    pub cases: bool,
+    pub zeros: bool,
+    pub escapes: bool,
+    pub ends: Ends,
 }
 
-pub fn varied(rng: &mut Rng, lines: &[Line]) -> Vec<u8> {
-    let loose = Looseness {
-        blanks: rng.one_in(2),
-        comments: rng.one_in(3),
-        cases: rng.one_in(2),
-        zeros: rng.one_in(3),
-        escapes: rng.one_in(2),
-        ends: rng.below(4),
+#[derive(Clone, Copy, PartialEq, Eq)]
+pub enum Ends {
+    Lf,
+    CrLf,
+    Mixed,
+}
+
+impl Looseness {
+    pub const NONE: Looseness = Looseness {
+        blanks: b"",
+        passed_over: &[],
+        cases: false,
+        zeros: false,
+        escapes: false,
+        ends: Ends::Lf,
     };
-    let mut text = Vec::new();
+
+    fn any(rng: &mut Rng) -> Looseness {
+        Looseness {
+            blanks: if rng.one_in(2) { BLANKS } else { b"" },
+            passed_over: if rng.one_in(3) { &PASSED_OVER } else { &[] },
+            cases: rng.one_in(2),
+            zeros: rng.one_in(3),
+            escapes: rng.one_in(2),
+            ends: rng.pick(&[Ends::Lf, Ends::Lf, Ends::CrLf, Ends::Mixed]),
+        }
+    }
+}
+
+const BLANKS: &[u8] = b"  \t";
+const PASSED_OVER: [&[u8]; 7] =
+    [b"", b"# one", b"; \"two, 3", b" \t", b"\t#\xFF\0", b"  ;0, 0, End_of_file", b"#\r"];
+
+pub fn varied(rng: &mut Rng, lines: &[Line]) -> Vec<u8> {
+    varied_at(rng, lines).0
+}
+
+/// A varied text, and the number in it of each of the lines.
+pub fn varied_at(rng: &mut Rng, lines: &[Line]) -> (Vec<u8>, Vec<usize>) {
+    let loose = Looseness::any(rng);
+    let (mut text, numbers) = loosely(rng, &loose, lines);
+    // Leave the last line's end off, or all of it but a CR.
+    if rng.one_in(4) {
+        text.pop();
+    }
+    (text, numbers)
+}
+
+/// A text as loose as this, and the number in it of each of the lines.
+pub fn loosely(rng: &mut Rng, loose: &Looseness, lines: &[Line]) -> (Vec<u8>, Vec<usize>) {
+    let (mut text, mut numbers, mut number) = (Vec::new(), Vec::new(), 1);
     for line in lines {
-        if loose.comments && rng.one_in(3) {
-            comment(rng, &loose, &mut text);
+        if !loose.passed_over.is_empty() && rng.one_in(3) {
+            comment(rng, loose, &mut text);
+            number += 1;
         }
         for (index, field) in line.iter().enumerate() {
             if index > 0 {
                 text.push(b',');
             }
-            blanks(rng, &loose, &mut text);
-            varied_field(rng, &loose, field, &mut text);
-            blanks(rng, &loose, &mut text);
+            blanks(rng, loose, &mut text);
+            varied_field(rng, loose, field, &mut text);
+            blanks(rng, loose, &mut text);
         }
-        line_end(rng, &loose, &mut text);
+        line_end(rng, loose, &mut text);
+        numbers.push(number);
+        number += 1;
     }
-    if loose.comments {
-        comment(rng, &loose, &mut text);
+    if !loose.passed_over.is_empty() {
+        comment(rng, loose, &mut text);
     }
-    // Leave the last line's end off, or all of it but a CR.
-    if rng.one_in(4) {
-        text.pop();
-    }
-    text
+    (text, numbers)
 }
 
 fn line_end(rng: &mut Rng, loose: &Looseness, text: &mut Vec<u8>) {
-    if loose.ends == 2 || loose.ends == 3 && rng.one_in(2) {
+    if loose.ends == Ends::CrLf || loose.ends == Ends::Mixed && rng.one_in(2) {
         text.push(b'\r');
     }
     text.push(b'\n');
 }
 
 fn comment(rng: &mut Rng, loose: &Looseness, text: &mut Vec<u8>) {
-    let comments: [&[u8]; 7] =
-        [b"", b"# one", b"; \"two, 3", b" \t", b"\t#\xFF\0", b"  ;0, 0, End_of_file", b"#\r"];
-    text.extend(rng.pick(&comments));
+    text.extend(rng.pick(loose.passed_over));
     line_end(rng, loose, text);
 }
 
 fn blanks(rng: &mut Rng, loose: &Looseness, text: &mut Vec<u8>) {
-    if loose.blanks {
+    if !loose.blanks.is_empty() {
         for _ in 0..rng.below(3) {
-            text.push(rng.pick(b"  \t"));
+            text.push(rng.pick(loose.blanks));
         }
     }
 }

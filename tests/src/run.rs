@@ -1,0 +1,353 @@
+//! A run of one operation of both programs over many inputs: what was met of all
+//! that is due, and the differences.
+
+use std::collections::BTreeMap;
+use std::env;
+use std::fs;
+use std::ops::Range;
+use std::time::Instant;
+
+use crate::compare::{Difference, Met, Operation, Room};
+use crate::coverage::Coverage;
+use crate::generate::{Aim, LimitText, Rng};
+use crate::piece::Piece;
+use crate::refusal::{Answer, Refusal};
+
+/// Of a run with many differences, or with many aims never met.
+const SHOWN: u64 = 10;
+/// Texts over this size take long.
+const LONG: usize = 1 << 24;
+/// The source whose accepted inputs are to hold all that `Coverage` has.
+pub const GENERATED: &str = "generated";
+/// Those to be met of an operation that takes a manner; in the first two every
+/// number but 30 and every room due.
+const MANNERS: [u32; 5] = [0, 1, 2, 255, u32::MAX];
+
+/// What one operation answered, source by source.
+pub struct Run<'a> {
+    operation: &'a Operation,
+    /// Reads what the accepted inputs of `GENERATED` hold, if that is to be seen.
+    read: Option<fn(&[u8]) -> Result<Piece, Refusal>>,
+    sources: Vec<Source>,
+    /// Name of each aim, and how often it was met.
+    aims: Vec<(String, u64)>,
+    differences: u64,
+    /// Of many differences only so many are shown and kept.
+    shown: u64,
+    started: Instant,
+}
+
+struct Source {
+    name: &'static str,
+    seeds: Range<u64>,
+    cases: u64,
+    /// How often both programs answered each number, in each kind of room and manner.
+    met: BTreeMap<Key, u64>,
+    /// What the accepted inputs held.
+    held: Coverage,
+}
+
+#[derive(Clone, Copy, PartialEq, Eq, PartialOrd, Ord)]
+struct Key {
+    number: u8,
+    room: Room,
+    manner: u32,
+}
+
+impl Source {
+    fn of(name: &'static str, seeds: Range<u64>) -> Source {
+        Source { name, seeds, cases: 0, met: BTreeMap::new(), held: Coverage::default() }
+    }
+
+    fn count(&self, wanted: impl Fn(&Key) -> bool) -> u64 {
+        let met = self.met.iter().filter(|(key, _)| wanted(key));
+        met.map(|(_, count)| count).sum()
+    }
+}
+
+impl Run<'_> {
+    pub fn of(operation: &Operation) -> Run<'_> {
+        Run {
+            operation,
+            read: None,
+            sources: Vec::new(),
+            aims: Vec::new(),
+            differences: 0,
+            shown: SHOWN,
+            started: Instant::now(),
+        }
+    }
+
+    /// The same, of which differences are only counted.
+    pub fn silent(self) -> Self {
+        Run { shown: 0, ..self }
+    }
+
+    pub fn differences(&self) -> u64 {
+        self.differences
+    }
+
+    /// The same, of which the generated inputs that are accepted must hold all that
+    /// `Coverage` has.
+    pub fn holding(operation: &Operation, read: fn(&[u8]) -> Result<Piece, Refusal>) -> Run<'_> {
+        Run { read: Some(read), ..Run::of(operation) }
+    }
+
+    /// Compares on an input for each seed, which chooses manner and room too.
+    pub fn source(&mut self, name: &'static str, seeds: Range<u64>, make: impl Fn(u64) -> Vec<u8>) {
+        let mut source = Source::of(name, seeds.clone());
+        for seed in seeds {
+            let input = make(seed);
+            let compared = self.operation.compare(seed, &input);
+            let Some(met) = self.take(&mut source, &seed.to_string(), &input, compared) else {
+                continue;
+            };
+            if let (0, GENERATED, Some(read)) = (met.number, name, self.read) {
+                source.held.add(&read(&input).expect("both programs read it"));
+            }
+        }
+        self.sources.push(source);
+    }
+
+    /// The same on texts of the aims in turn; both must give the answer due.
+    pub fn aimed(&mut self, name: &'static str, seeds: Range<u64>, aims: &[Aim]) {
+        let mut source = Source::of(name, seeds.clone());
+        let mut counts = vec![0; aims.len()];
+        for seed in seeds {
+            let index = (seed % aims.len() as u64) as usize;
+            let aimed = aims[index].text(&mut Rng::new(!seed));
+            let compared = self.operation.compare(seed, &aimed.text);
+            let what = format!("{seed} ({})", aims[index].name);
+            let Some(met) = self.take(&mut source, &what, &aimed.text, compared) else {
+                continue;
+            };
+            let answer = Answer { number: met.number, place: met.place, length: 0 };
+            if met.manner > 1 {
+                self.expect(answer == MANNER_REFUSED, &what, answer);
+            } else {
+                counts[index] += u64::from(aimed.is_met_by(answer));
+                self.expect(aimed.is_met_by(answer), &what, answer);
+            }
+        }
+        self.aims.extend(aims.iter().map(|aim| aim.name.clone()).zip(counts));
+        self.sources.push(source);
+    }
+
+    /// The same on texts at limits, in all manners and rooms that matter (the longest
+    /// mostly in one of the manners); both must give the answers due.
+    pub fn limits(&mut self, name: &'static str, cases: &[LimitText]) {
+        let mut source = Source::of(name, 0..cases.len() as u64);
+        let rng = &mut Rng::new(0);
+        for (index, case) in cases.iter().enumerate() {
+            let text = case.text();
+            let manners: &[usize] = match index {
+                // 30 comes before 21.
+                0..=3 => &[0, 1, 2],
+                _ if text.len() <= LONG => &[0, 1, 2],
+                _ => &[[0], [1]][index / 2 % 2],
+            };
+            for manner in manners.iter().copied() {
+                let due = *case.due.get(manner).unwrap_or(&MANNER_REFUSED);
+                let rooms = match due.length {
+                    0 => vec![4_096 * (1 - manner % 2)],
+                    needed if text.len() > LONG => vec![needed - manner],
+                    needed => vec![0, needed - 1, needed, needed + 64],
+                };
+                for room in rooms {
+                    let fits = due.number == 14 && room >= due.length;
+                    let due_here = if fits { 0 } else { due.number };
+                    let what = format!("{}, manner {manner}, room {room}", case.what);
+                    let operation = self.operation;
+                    let compared =
+                        operation.compare_in(rng, &text, manner as u32, room, due.length);
+                    if let Some(met) = self.take(&mut source, &what, &text, compared) {
+                        let good = (met.number, met.place) == (due_here, due.place);
+                        let answer = Answer { number: met.number, place: met.place, length: 0 };
+                        self.expect(good, &what, answer);
+                    }
+                }
+            }
+        }
+        self.sources.push(source);
+    }
+
+    /// Counts what was met, or shows and keeps the difference.
+    fn take(
+        &mut self,
+        source: &mut Source,
+        what: &str,
+        input: &[u8],
+        compared: Result<Met, Difference>,
+    ) -> Option<Met> {
+        source.cases += 1;
+        match compared {
+            Ok(met) => {
+                let Met { number, room, manner, .. } = met;
+                *source.met.entry(Key { number, room, manner }).or_insert(0) += 1;
+                Some(met)
+            }
+            Err(difference) => {
+                self.differences += 1;
+                if self.differences <= self.shown {
+                    let file = format!("{}-{}", source.name, source.cases - 1);
+                    let kept = keep(self.operation.name, &file, input);
+                    println!("DIFFERENCE in {}, {what}: {difference}\n    {kept}", source.name);
+                }
+                None
+            }
+        }
+    }
+
+    /// An answer that both give but that is not due counts as a difference.
+    fn expect(&mut self, good: bool, what: &str, answer: Answer) {
+        if !good {
+            self.differences += 1;
+            if self.differences <= self.shown {
+                println!("NOT DUE: {what}: both answer {} at {}", answer.number, answer.place);
+            }
+        }
+    }
+
+    fn total(&self, wanted: impl Fn(&Key) -> bool) -> u64 {
+        self.sources.iter().map(|source| source.count(&wanted)).sum()
+    }
+
+    /// Prints the table and the verdict; true if it is good. `due` are the numbers to
+    /// be met, and no others. With 14 among them every room due must be met too, and
+    /// where some room is always enough, every other number in that room.
+    pub fn report(&self, due: &[u8]) -> bool {
+        let name = self.operation.name;
+        println!("{name}: archive against second program, {:.0} seconds", self.seconds());
+        self.row("source", |source| source.name.to_owned());
+        self.row("seeds", |source| format!("{}..{}", source.seeds.start, source.seeds.end));
+        let total = |number: u8| self.total(|key| key.number == number);
+        for number in (0..=255).filter(|number| due.contains(number) || total(*number) > 0) {
+            self.row(&number.to_string(), |source| {
+                source.count(|key| key.number == number).to_string()
+            });
+        }
+        self.row("cases", |source| source.cases.to_string());
+
+        let missing: Vec<&u8> = due.iter().filter(|number| total(**number) == 0).collect();
+        let undue: Vec<u8> =
+            (0..=255).filter(|number| !due.contains(number) && total(*number) > 0).collect();
+        let mut unmet = if due.contains(&14) { self.rooms(due) } else { Vec::new() };
+        if self.operation.manners {
+            unmet.extend(self.manners(due));
+        }
+        unmet.extend(self.aims_unmet());
+        unmet.extend(self.not_held());
+        let cases: u64 = self.sources.iter().map(|source| source.cases).sum();
+        println!("{name}: {cases} cases, {} differences", self.differences);
+        println!("{name}: never met: {missing:?} {unmet:?}, met but not due: {undue:?}");
+        self.differences == 0 && missing.is_empty() && undue.is_empty() && unmet.is_empty()
+    }
+
+    /// Prints how often each kind of room was met; what was due of them but never
+    /// met.
+    fn rooms(&self, due: &[u8]) -> Vec<String> {
+        let mut kinds = Room::DUE.to_vec();
+        if self.operation.enough > 0 {
+            kinds.extend([Room::Enough, Room::UnderEnough]);
+        }
+        for kind in kinds.iter().copied().chain([Room::Smaller, Room::Unused]) {
+            let count = |source: &Source| source.count(|key| key.room == kind);
+            self.row(&format!("{kind:?}"), |source| count(source).to_string());
+        }
+        let mut unmet = Vec::new();
+        for kind in kinds {
+            if self.total(|key| key.room == kind) == 0 {
+                unmet.push(format!("{kind:?}"));
+            }
+        }
+        if self.operation.enough > 0 {
+            let enough =
+                |number: u8| self.total(|key| key.number == number && key.room == Room::Enough);
+            let due: Vec<u8> = due.iter().copied().filter(|number| *number != 14).collect();
+            let counts: Vec<String> =
+                due.iter().map(|number| format!("{number}: {}", enough(*number))).collect();
+            println!("  numbers in room Enough: {}", counts.join(", "));
+            let never = due.iter().filter(|number| enough(**number) == 0);
+            unmet.extend(never.map(|number| format!("{number} in room Enough")));
+        }
+        unmet
+    }
+
+    /// Prints how often each manner was met; what was due of them but never met.
+    fn manners(&self, due: &[u8]) -> Vec<String> {
+        let mut unmet = Vec::new();
+        for manner in MANNERS {
+            let count = |source: &Source| source.count(|key| key.manner == manner);
+            self.row(&format!("m. {manner}"), |source| count(source).to_string());
+            let total = |wanted: &dyn Fn(&Key) -> bool| {
+                self.total(|key| key.manner == manner && wanted(key))
+            };
+            let numbers: Vec<u8> = match manner {
+                0 | 1 => due.iter().copied().filter(|number| *number != 30).collect(),
+                _ => vec![30],
+            };
+            let never = numbers.iter().filter(|number| total(&|key| key.number == **number) == 0);
+            unmet.extend(never.map(|number| format!("{number} in manner {manner}")));
+            if manner < 2 {
+                let never = Room::DUE.iter().filter(|room| total(&|key| key.room == **room) == 0);
+                unmet.extend(never.map(|room| format!("{room:?} in manner {manner}")));
+            }
+        }
+        let others = |source: &Source| source.count(|key| !MANNERS.contains(&key.manner));
+        self.row("m. others", |source| others(source).to_string());
+        unmet
+    }
+
+    /// Prints how often aims were met; those never met.
+    fn aims_unmet(&self) -> Vec<String> {
+        if let Some((name, least)) = self.aims.iter().min_by_key(|(_, count)| *count) {
+            println!("  {} aims, each met at least {least} times ({name})", self.aims.len());
+        }
+        let never: Vec<String> = self
+            .aims
+            .iter()
+            .filter(|(_, count)| *count == 0)
+            .map(|(name, _)| format!("aim {name}"))
+            .collect();
+        let further = never.len().saturating_sub(SHOWN as usize);
+        let mut unmet: Vec<String> = never.into_iter().take(SHOWN as usize).collect();
+        if further > 0 {
+            unmet.push(format!("{further} further aims"));
+        }
+        unmet
+    }
+
+    /// What the inputs of this run were to hold and did not.
+    fn not_held(&self) -> Vec<String> {
+        if self.read.is_none() {
+            return Vec::new();
+        }
+        let mut missing = Vec::new();
+        for source in self.sources.iter().filter(|source| source.name == GENERATED) {
+            println!("  {} inputs accepted held {}", source.name, source.held.summary());
+            missing.extend(source.held.missing());
+        }
+        missing
+    }
+
+    fn row(&self, title: &str, cell: impl Fn(&Source) -> String) {
+        let cells: String =
+            self.sources.iter().map(|source| format!(" {:>18}", cell(source))).collect();
+        println!("  {title:<12}{cells}");
+    }
+
+    fn seconds(&self) -> f64 {
+        self.started.elapsed().as_secs_f64()
+    }
+}
+
+const MANNER_REFUSED: Answer = Answer { number: 30, place: 0, length: 0 };
+
+/// Writes an input that the programs differ on; says where it stands.
+fn keep(operation: &str, case: &str, input: &[u8]) -> String {
+    let path = env::temp_dir().join(format!("noferkash-{operation}-{case}.input"));
+    match fs::write(&path, input) {
+        Ok(()) => format!("input: {} ({} bytes)", path.display(), input.len()),
+        Err(error) => format!("input not kept: {}: {error}", path.display()),
+    }
+}
