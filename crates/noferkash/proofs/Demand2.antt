@@ -52,6 +52,10 @@ file-written w old k =
       room = λ h. (rw (le-leb (length w) fileLimit k, lt-leb (length w) (length old) h) refl, rw (le-leb (length w) fileLimit k, lt-leb (length w) (length old) h) refl);
     }
 
+-- file_to_text on an accepted file: its text, refused only for room (14)
+pub accepted-text : (f : List ℕ) (p : Piece) (old : List ℕ) → LaidOut f p → length f ≤ fileLimit → Written (textAnswer (length old) (readFile f)) (textLeaves (readFile f) old) (textOf p) old
+accepted-text f p old l k = rw (laid-read f p l k) (text-written p [] old)
+
 -- a call that succeeded wrote all of it
 whole-written : (a : Answer) (contents whole old : List ℕ) → Written a contents whole old → a .number ≡ 0 → (take (a .length) contents ≡ whole) × (length whole ≤ length old)
 whole-written a contents whole old w z =
