@@ -1,27 +1,86 @@
-# make          builds the proved library and runs it on an example file
-# make test     the gate: every test, then every proof from nothing
-# make bench    times checking, tidying and writing as text a file of about 1 MiB: ours beside the second
-#               program's and, of texts, beside a Rust converter made for speed and midicsv, if installed
-ARCHIVE = target/staticlib/libnoferkash.a
+# make           builds the proved library and runs it on an example file
+# make tool      builds the command line tool, target/noferkash, and the library with its words for
+#                refusals, target/libnoferkash.a
+# make install   PREFIX=/usr/local DESTDIR=: header, library, pkg-config file, tool, man pages
+# make uninstall takes these away again
+# make test      the gate: every test, then every proof from nothing
+# make bench     times checking, tidying and writing as text a file of about 1 MiB: ours beside the second
+#                program's and, of texts, beside a Rust converter made for speed and midicsv, if installed
+# ARCHIVE=FILE   uses a proved library that is already built; then rt is not needed
+PROVED = target/staticlib/libnoferkash.a
+ARCHIVE = $(PROVED)
+LIBRARY = target/libnoferkash.a
+TOOL = target/noferkash
 EXAMPLE = tests/corpus/gen-lilypond__own1.mid
 
-.PHONY: example test bench clean $(ARCHIVE)
+PREFIX = /usr/local
+BINDIR = $(PREFIX)/bin
+INCLUDEDIR = $(PREFIX)/include
+LIBDIR = $(PREFIX)/lib
+MANDIR = $(PREFIX)/share/man
+
+CFLAGS = -O2
+COMPILE = $(CC) -std=c99 -Wall -Wextra -Wpedantic $(CPPFLAGS) $(CFLAGS) -Iinclude
+VERSION = $(shell sed -n 's/^.define NOFERKASH_VERSION "\(.*\)"/\1/p' include/noferkash.h)
+MAN = $(wildcard man/*.1 man/*.3 man/*.5)
+
+.PHONY: example tool install uninstall test bench clean
+# rt knows what has changed. But installing takes the library that is there: root may have no rt.
+ifneq ($(MAKECMDGOALS),install)
+.PHONY: $(PROVED)
+endif
 
 example: target/check_file
 	target/check_file $(EXAMPLE)
 
-# rt knows what has changed
-$(ARCHIVE):
+$(PROVED):
 	rt staticlib noferkash
 
 target/check_file: examples/check_file.c include/noferkash.h $(ARCHIVE)
 	$(CC) -std=c99 -Wall -Wextra -O2 -Iinclude -o $@ examples/check_file.c $(ARCHIVE)
 
+tool: $(TOOL)
+
+target/refusal_words.o: tools/refusal_words.c include/noferkash.h
+	@mkdir -p target
+	$(COMPILE) -c -o $@ tools/refusal_words.c
+
+# A copy: the file that rt made stays as rt made it. Moved in place when whole.
+$(LIBRARY): target/refusal_words.o $(ARCHIVE)
+	cp $(ARCHIVE) $@.new
+	$(AR) rs $@.new target/refusal_words.o
+	mv $@.new $@
+
+$(TOOL): tools/noferkash.c tools/read.c tools/write.c tools/tool.h include/noferkash.h $(LIBRARY)
+	$(COMPILE) $(LDFLAGS) -o $@ tools/noferkash.c tools/read.c tools/write.c $(LIBRARY)
+
+target/convert_file: examples/convert_file.c include/noferkash.h $(LIBRARY)
+	$(COMPILE) $(LDFLAGS) -o $@ examples/convert_file.c $(LIBRARY)
+
+install: $(TOOL)
+	install -d "$(DESTDIR)$(BINDIR)" "$(DESTDIR)$(INCLUDEDIR)" "$(DESTDIR)$(LIBDIR)/pkgconfig"
+	install -m 755 $(TOOL) "$(DESTDIR)$(BINDIR)/noferkash"
+	install -m 644 include/noferkash.h "$(DESTDIR)$(INCLUDEDIR)/noferkash.h"
+	install -m 644 $(LIBRARY) "$(DESTDIR)$(LIBDIR)/libnoferkash.a"
+	install -m 644 tools/noferkash.pc.in "$(DESTDIR)$(LIBDIR)/pkgconfig/noferkash.pc"
+	sed -i -e 's|@PREFIX@|$(PREFIX)|' -e 's|@INCLUDEDIR@|$(INCLUDEDIR)|' -e 's|@LIBDIR@|$(LIBDIR)|' \
+	    -e 's|@VERSION@|$(VERSION)|' "$(DESTDIR)$(LIBDIR)/pkgconfig/noferkash.pc"
+	for page in $(MAN); do \
+	    install -D -m 644 $$page "$(DESTDIR)$(MANDIR)/man$${page##*.}/$${page##*/}" || exit 1; \
+	done
+
+uninstall:
+	rm -f "$(DESTDIR)$(BINDIR)/noferkash" "$(DESTDIR)$(INCLUDEDIR)/noferkash.h" \
+	    "$(DESTDIR)$(LIBDIR)/libnoferkash.a" "$(DESTDIR)$(LIBDIR)/pkgconfig/noferkash.pc"
+	for page in $(MAN); do \
+	    rm -f "$(DESTDIR)$(MANDIR)/man$${page##*.}/$${page##*/}" || exit 1; \
+	done
+
 test:
 	.ci/run
 
 bench: $(ARCHIVE)
-	cd tests && NOFERKASH_ARCHIVE_DIR=$(CURDIR)/target/staticlib \
+	cd tests && NOFERKASH_ARCHIVE_DIR=$(dir $(abspath $(ARCHIVE))) \
 	    cargo run --release --offline --features archive --bin bench
 
 clean:

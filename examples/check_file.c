@@ -5,7 +5,7 @@
 #include "noferkash.h"
 
 /* One byte over the limit shows that a file is too long. */
-#define ROOM (1048576 + 1)
+#define ROOM (NOFERKASH_FILE_LIMIT + 1)
 
 int main(int argc, char **argv) {
     if (argc != 2) {

@@ -23,6 +23,10 @@
 
 #define NOFERKASH_VERSION "0.1.0"
 
+/* The greatest files, read or written, and the greatest texts read, in bytes. */
+#define NOFERKASH_FILE_LIMIT 1048576
+#define NOFERKASH_TEXT_LIMIT 33554432
+
 /* 0, or one of the refusal numbers. */
 #define NOFERKASH_NUMBER(answer) ((int)((uint64_t)(answer) >> 56))
 /* Where a refusal is: a byte of a file from 0 on, a line of a text from 1 on. */
@@ -111,6 +115,11 @@ uint64_t noferkash_text_to_file(const uint8_t *text, size_t text_len, uint32_t m
  * - NOFERKASH_ROOM_TOO_SMALL when out_len is under the length needed, which the
  *   answer gives. So out_len 0 asks for it. */
 uint64_t noferkash_tidy(const uint8_t *file, size_t file_len, uint8_t *out, size_t out_len);
+
+/* The meaning of a number in a few words, as "bytes after End_track in the
+ * track"; for every other number "unknown refusal number". Never NULL, never to
+ * be freed. This one function is plain C, tested and not proved. */
+const char *noferkash_refusal_words(int number);
 
 #ifdef __cplusplus
 }

@@ -1,0 +1,124 @@
+/* Output of the command line tool. */
+#define _XOPEN_SOURCE 700
+
+#include <errno.h>
+#include <fcntl.h>
+#include <stdio.h>
+#include <stdlib.h>
+#include <string.h>
+#include <sys/stat.h>
+#include <unistd.h>
+
+#include "tool.h"
+
+/* How many files of killed runs with our process number we step over. */
+#define MOST_LEFTOVERS 1000
+/* ".noferkash-", two numbers, a hyphen and the closing 0 take less. */
+#define NAME_ROOM 64
+
+static int write_all(int file, const uint8_t *bytes, size_t length) {
+    while (length > 0) {
+        ssize_t written = write(file, bytes, length);
+        if (written >= 0) {
+            bytes += written;
+            length -= (size_t)written;
+        } else if (errno != EINTR) {
+            return 0;
+        }
+    }
+    return 1;
+}
+
+/* Closing can fail too: some file systems say only then that the disk is full.
+ * Of two failures the first is the one to report. */
+static int close_after(int file, int good) {
+    int reason = errno;
+    if (close(file) != 0 && good) {
+        return 0;
+    }
+    errno = reason;
+    return good;
+}
+
+/* A new file in the folder of `path`, since a file is renamed only within a file
+ * system. The name has nothing of the old name, which may be as long as names
+ * can be. */
+static int create_beside(const char *path, mode_t mode, char *name, size_t room) {
+    const char *slash = strrchr(path, '/');
+    int folder = slash == NULL ? 0 : (int)(slash - path) + 1;
+    for (int i = 0; i < MOST_LEFTOVERS; i++) {
+        snprintf(name, room, "%.*s.noferkash-%ld-%d", folder, path, (long)getpid(), i);
+        int file = open(name, O_WRONLY | O_CREAT | O_EXCL, mode);
+        if (file >= 0 || errno != EEXIST) {
+            return file;
+        }
+    }
+    return -1;
+}
+
+/* Gives the new file the owner and the permissions of the old one. */
+static int take_after(int file, const struct stat *old) {
+    if (fchown(file, old->st_uid, old->st_gid) != 0) {
+        /* Only root gives files away; for others the new file is their own. */
+    }
+    return fchmod(file, old->st_mode & 0777) == 0;
+}
+
+/* Writes under a new name and renames that, so that whatever fails leaves the
+ * old file whole, and nobody ever sees half of the new one. */
+static int replace(const char *path, const struct stat *old, const uint8_t *bytes, size_t length) {
+    size_t room = strlen(path) + NAME_ROOM;
+    char *name = malloc(room);
+    if (name == NULL) {
+        return 0;
+    }
+    /* Until it has the old one's permissions it is nobody else's to read. */
+    int file = create_beside(path, old == NULL ? 0666 : 0600, name, room);
+    int good = file >= 0;
+    if (good) {
+        good = (old == NULL || take_after(file, old)) && write_all(file, bytes, length) &&
+               fsync(file) == 0;
+        good = close_after(file, good) && rename(name, path) == 0;
+        if (!good) {
+            int reason = errno;
+            unlink(name);
+            errno = reason;
+        }
+    }
+    free(name);
+    return good;
+}
+
+/* Writes to what is no regular file, as a device or a named pipe: renaming would
+ * put a file in its place. */
+static int write_through(const char *path, const uint8_t *bytes, size_t length) {
+    int file = open(path, O_WRONLY);
+    return file >= 0 && close_after(file, write_all(file, bytes, length));
+}
+
+static int write_named(const char *name, const uint8_t *bytes, size_t length) {
+    struct stat old;
+    if (stat(name, &old) != 0) {
+        return replace(name, NULL, bytes, length);
+    }
+    if (!S_ISREG(old.st_mode)) {
+        return write_through(name, bytes, length);
+    }
+    /* Renaming asks nothing of the old file, but a write-protected one is meant
+     * to stay, and a link is meant to go on leading to its file. */
+    char *path = access(name, W_OK) == 0 ? realpath(name, NULL) : NULL;
+    int good = path != NULL && replace(path, &old, bytes, length);
+    free(path);
+    return good;
+}
+
+int write_output(const char *name, const void *bytes, size_t length) {
+    int good = is_standard(name)
+                   ? close_after(STDOUT_FILENO, write_all(STDOUT_FILENO, bytes, length))
+                   : write_named(name, bytes, length);
+    if (!good) {
+        fprintf(stderr, "noferkash: %s: %s\n", is_standard(name) ? "standard output" : name,
+                strerror(errno));
+    }
+    return good;
+}
