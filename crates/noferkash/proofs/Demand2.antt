@@ -1,161 +1,145 @@
 -- Demand 2 for calls: file to text to file, and text to file to text.
-use mathlib.Core.Path.{_≡_, refl, sym, ap, ap₂, _∙_}
-use Prim.Native.Nat.{ℕ, _+_, _<_, _≤_}
+use mathlib.Core.Path.{_≡_, refl, ap, ap₂, _∙_}
+use Prim.Native.Nat.{ℕ, _+_, _≤_}
 use mathlib.Core.List.{List, []}
 use native.Mathlib.Omega.{arith}
 use lib.ListN.{length, take, drop}
+use lib.Seq.{take-append-seam}
 use lib.Dec.{leb}
 use borrow.Author.Tests.{leb-true, leb-false, le-leb, lt-leb}
 use Rattle.event.specs.Bytes.{Bytes}
 use Rattle.event.specs.Choice.{pick}
-use Rattle.event.specs.Manner.{Manner}
 use Rattle.event.specs.Outcome.{Outcome, ok, refused}
 use Rattle.event.proofs.ChoiceLaws.{by-test}
 use Rattle.event.proofs.OutcomeLaws.{check-ok}
+use Rattle.event.proofs.RefusalLaws.{Fair}
 use Rattle.smf.specs.Piece.{Piece}
 use Rattle.smf.specs.Layout.{LaidOut}
 use Rattle.smf.specs.Manner.{fileOf}
 use Rattle.smf.specs.Reader.{fileLimit, readFile}
 use Rattle.smf.specs.Writing.{writeAnswer, writeLeaves}
-use Rattle.smf.specs.Answer.{refusal}
-use Rattle.smf.specs.declared.Answer.{Answer}
-use Rattle.midicsv.specs.Text.{textOf}
-use Rattle.midicsv.specs.PieceOfText.{pieceOfText, textLimit}
-use Rattle.midicsv_write.specs.ToText.{textAnswer, textLeaves}
-use Rattle.midicsv_read.specs.ToFile.{mannerNumbered, pieceAnswer, pieceLeaves, fileAnswer, fileLeaves}
-use Rattle.noferkash.specs.Demand2.{Written, textWritten, fileWritten, FileKept, TextKept}
+use Rattle.smf.specs.Answer.{success, refusal, roomNeeded, verdict}
 use Rattle.smf.proofs.DemandLaws.{laid-read}
 use Rattle.smf.proofs.MannerLaws.{manner-laid}
 use Rattle.smf.proofs.FileLaws.{piece-sound}
 use Rattle.smf.proofs.RefusalLaws.{file-fair}
-use Rattle.event.proofs.RefusalLaws.{Fair}
+use Rattle.midicsv.specs.Text.{textOf}
+use Rattle.midicsv.specs.PieceOfText.{pieceOfText, textLimit}
 use Rattle.midicsv.proofs.TextReadLaws.{text-read, text-small}
 use Rattle.midicsv.proofs.AcceptedLaws.{accepted-laid}
 use Rattle.midicsv.proofs.RefusedLaws.{TextFair, text-fair}
-use lib.Seq.{take-append-seam}
+use Rattle.midicsv_write.specs.ToText.{textAnswer, textLeaves}
+use Rattle.midicsv_read.specs.ToFile.{mannerNumbered, pieceAnswer, pieceLeaves, fileAnswer, fileLeaves}
+use Rattle.noferkash.specs.Packed.{packed, numberOf, lengthOf}
+use Rattle.noferkash.specs.Calls.{TextCall, FileCall}
+use Rattle.noferkash.specs.Demand2.{Writes, WritesFile, FileKept, TextKept, Taken, Demand2}
+use Rattle.noferkash.proofs.PackedLaws.{taken-apart, not-zero}
 
--- ---- what is written where nothing forbids it
+-- ---- what one call writes
 
-text-written : (p : Piece) (r old : List ℕ) → Written (textAnswer (length old) (ok p r)) (textLeaves (ok p r) old) (textOf p) old
+text-writes : (p : Piece) (f old : List ℕ) (r : ℕ) (new : List ℕ) → readFile f ≡ ok p [] → length (textOf p) ≤ textLimit → TextCall f old r new → Writes (textOf p) old r new
 unfolding textAnswer textLeaves pick
-text-written p r old =
+text-writes p f old r new e k c =
+    let answer = c .0 ∙ ap (λ x. packed (textAnswer (length old) x)) e in
+    let leaves = c .1 ∙ ap (λ x. textLeaves x old) e in
     record {
-      fits = λ h. (rw (le-leb (length (textOf p)) (length old) h) refl, rw (le-leb (length (textOf p)) (length old) h) (take-append-seam (textOf p) (drop (length (textOf p)) old)));
-      room = λ h. (rw (lt-leb (length (textOf p)) (length old) h) refl, rw (lt-leb (length (textOf p)) (length old) h) refl);
+      fits = λ h. let t = le-leb (length (textOf p)) (length old) h in (taken-apart r (success (length (textOf p))) (rw t at answer) (record { place = omega arith; length = omega (arith, k) }), rw t at leaves);
+      room = λ h. let t = lt-leb (length (textOf p)) (length old) h in (taken-apart r (roomNeeded (length (textOf p))) (rw t at answer) (record { place = omega arith; length = omega (arith, k) }), rw t at leaves);
     }
 
-file-written : (w old : List ℕ) → length w ≤ fileLimit → Written (writeAnswer (length old) (length w)) (writeLeaves w old) w old
+file-writes : (w old : List ℕ) (r : ℕ) (new : List ℕ) → r ≡ packed (writeAnswer (length old) (length w)) → new ≡ writeLeaves w old → WritesFile w old r new
 unfolding writeAnswer writeLeaves pick
-file-written w old k =
+file-writes w old r new answer leaves =
     record {
-      fits = λ h. (rw (le-leb (length w) fileLimit k, le-leb (length w) (length old) h) refl, rw (le-leb (length w) fileLimit k, le-leb (length w) (length old) h) (take-append-seam w (drop (length w) old)));
-      room = λ h. (rw (le-leb (length w) fileLimit k, lt-leb (length w) (length old) h) refl, rw (le-leb (length w) fileLimit k, lt-leb (length w) (length old) h) refl);
+      long = λ h. let t = lt-leb (length w) fileLimit h in (taken-apart r (refusal 29 0) (rw t at answer) (record { place = omega arith; length = omega arith }), rw t at leaves);
+      short = λ k. let u = le-leb (length w) fileLimit k in
+          record {
+            fits = λ h. let t = le-leb (length w) (length old) h in (taken-apart r (success (length w)) (rw (u, t) at answer) (record { place = omega arith; length = omega (arith, k) }), rw (u, t) at leaves);
+            room = λ h. let t = lt-leb (length w) (length old) h in (taken-apart r (roomNeeded (length w)) (rw (u, t) at answer) (record { place = omega arith; length = omega (arith, k) }), rw (u, t) at leaves);
+          };
     }
 
--- file_to_text on an accepted file: its text, refused only for room (14)
-pub accepted-text : (f : List ℕ) (p : Piece) (old : List ℕ) → LaidOut f p → length f ≤ fileLimit → Written (textAnswer (length old) (readFile f)) (textLeaves (readFile f) old) (textOf p) old
-accepted-text f p old l k = rw (laid-read f p l k) (text-written p [] old)
+-- text_to_file on a text that has a piece: its file, refused only for length (29) or room (14)
+taken-writes : (s : List ℕ) (p : Piece) (manner : ℕ) (old : List ℕ) (r : ℕ) (new : List ℕ) → Taken s p → manner ≤ 1 → FileCall s manner old r new
+    → WritesFile (fileOf (mannerNumbered manner) p) old r new
+unfolding fileAnswer fileLeaves pieceAnswer pieceLeaves pick
+taken-writes s p manner old r new t h c =
+    let m = le-leb manner 1 h in
+    let k = le-leb (length s) textLimit (t .short) in
+    file-writes (fileOf (mannerNumbered manner) p) old r new (rw (m, k, t .piece) at (c .0)) (rw (m, k, t .piece) at (c .1))
 
 -- a call that succeeded wrote all of it
-whole-written : (a : Answer) (contents whole old : List ℕ) → Written a contents whole old → a .number ≡ 0 → (take (a .length) contents ≡ whole) × (length whole ≤ length old)
-whole-written a contents whole old w z =
+whole-written : (whole old : List ℕ) (r : ℕ) (new : List ℕ) → Writes whole old r new → numberOf r ≡ 0 → take (lengthOf r) new ≡ whole
+whole-written whole old r new w z =
     by-test (leb (length whole) (length old))
-    (λ t. let h = leb-true (length whole) (length old) t in let (e, q) = w .fits h in (ap (λ (x : Answer). take (x .length) contents) e ∙ q, h))
-    (λ t. let e = ap (λ (x : Answer). x .number) (w .room (leb-false (length whole) (length old) t) .0) in absurd (omega (arith, z, e)))
+    (λ t. let (a, e) = w .fits (leb-true (length whole) (length old) t) in ap₂ take (a .length) e ∙ take-append-seam whole (drop (length whole) old))
+    (λ t. let (a, e) = w .room (leb-false (length whole) (length old) t) in absurd (omega (arith, z, a .number)))
+
+whole-file : (whole old : List ℕ) (r : ℕ) (new : List ℕ) → WritesFile whole old r new → numberOf r ≡ 0 → (take (lengthOf r) new ≡ whole) × (length whole ≤ fileLimit)
+whole-file whole old r new w z =
+    by-test (leb (length whole) fileLimit)
+    (λ t. let k = leb-true (length whole) fileLimit t in (whole-written whole old r new (w .short k) z, k))
+    (λ t. let (a, e) = w .long (leb-false (length whole) fileLimit t) in absurd (omega (arith, z, a .number)))
 
 -- ---- file to text to file
 
--- the text of a piece that has a short layout, turned back
-back-answer : (f : List ℕ) (p : Piece) (manner room : ℕ) → LaidOut f p → length f ≤ fileLimit → manner ≤ 1 → fileAnswer (textOf p) manner room ≡ writeAnswer room (length (fileOf (mannerNumbered manner) p))
-unfolding fileAnswer pieceAnswer pick
-back-answer f p manner room l k h = rw (le-leb manner 1 h, le-leb (length (textOf p)) textLimit (text-small f p l k), text-read f p l) refl
-
-back-leaves : (f : List ℕ) (p : Piece) (manner : ℕ) (old : List ℕ) → LaidOut f p → length f ≤ fileLimit → manner ≤ 1 → fileLeaves (textOf p) manner old ≡ writeLeaves (fileOf (mannerNumbered manner) p) old
-unfolding fileLeaves pieceLeaves pick
-back-leaves f p manner old l k h = rw (le-leb manner 1 h, le-leb (length (textOf p)) textLimit (text-small f p l k), text-read f p l) refl
-
-too-long : (room : ℕ) (w old : List ℕ) → fileLimit < length w → (writeAnswer room (length w) ≡ refusal 29 0) × (writeLeaves w old ≡ old)
-unfolding writeAnswer writeLeaves pick
-too-long room w old h = (rw (lt-leb (length w) fileLimit h) refl, rw (lt-leb (length w) fileLimit h) refl)
-
-kept-with : (f old : List ℕ) (manner : ℕ) (other : List ℕ) (p : Piece) → LaidOut f p → length f ≤ fileLimit → manner ≤ 1 → textWritten f old ≡ textOf p → FileKept f old manner other p
-kept-with f old manner other p l k h e =
-    let answer = ap (λ s. fileAnswer s manner (length other)) e ∙ back-answer f p manner (length other) l k h in
-    let leaves = ap (λ s. fileLeaves s manner other) e ∙ back-leaves f p manner other l k h in
-    let w = fileOf (mannerNumbered manner) p in
+file-kept : (f : List ℕ) (p : Piece) (old : List ℕ) (r : ℕ) (new : List ℕ) → LaidOut f p → length f ≤ fileLimit → TextCall f old r new → FileKept p old r new
+file-kept f p old r new l k c =
+    let small = text-small f p l k in
+    let text = text-writes p f old r new (laid-read f p l k) small c in
     record {
-      laid = l;
-      text = e;
-      long = λ g. let (x, y) = too-long (length other) w other g in (answer ∙ x, leaves ∙ y);
-      back = λ g. rw (answer, leaves) (file-written w other g);
-      same = λ g. laid-read w p (manner-laid (mannerNumbered manner) f p l k) g;
+      text = text;
+      back = λ manner other r' new' z h c'.
+          let s = take (lengthOf r) new in
+          let e : s ≡ textOf p = whole-written (textOf p) old r new text z in
+          taken-writes s p manner other r' new' (record { piece = ap pieceOfText e ∙ text-read f p l; short = omega (arith, ap length e, small) }) h c';
+      same = λ manner g. laid-read (fileOf (mannerNumbered manner) p) p (manner-laid (mannerNumbered manner) f p l k) g;
     }
 
-refused-text : (room n l : ℕ) → 1 ≤ n → textAnswer room (refused n l) .number ≡ 0 → ⊥
-unfolding textAnswer
-refused-text room n l h z = omega arith
-
-file-kept-with : (f old : List ℕ) (manner : ℕ) (other : List ℕ) (x : Outcome Piece) → Bytes f → manner ≤ 1 → readFile f ≡ x → Fair (length f) x → textAnswer (length old) x .number ≡ 0
-    → (p : Piece) × FileKept f old manner other p
-unfolding readFile
-file-kept-with f old manner other (ok p r) bs h e fair z =
-    let (c, q) = check-ok _ 1 0 _ p r e in
-    let written = whole-written (textAnswer (length old) (ok p r)) (textLeaves (ok p r) old) (textOf p) old (text-written p r old) z in
-    let text : textWritten f old ≡ textOf p = ap (λ y. take (textAnswer (length old) y .length) (textLeaves y old)) e ∙ written .0 in
-    (p, kept-with f old manner other p (piece-sound f p r bs q .laid) (leb-true (length f) fileLimit c) h text)
-file-kept-with f old manner other (refused n l) bs h e fair z = absurd (refused-text (length old) n l (fair .0) z)
-
--- file_to_text answered number 0 for the file f in the room old
-pub file-kept : (f old : List ℕ) (manner : ℕ) (other : List ℕ) → Bytes f → manner ≤ 1 → textAnswer (length old) (readFile f) .number ≡ 0 → (p : Piece) × FileKept f old manner other p
-file-kept f old manner other bs h z = file-kept-with f old manner other (readFile f) bs h refl (file-fair f bs) z
+from-file-with : (f old : List ℕ) (r : ℕ) (x : Outcome Piece) → Bytes f → readFile f ≡ x → Fair (length f) x → r ≡ packed (textAnswer (length old) x) → numberOf r ≡ 0
+    → (p : Piece) × LaidOut f p × (length f ≤ fileLimit)
+unfolding readFile textAnswer
+from-file-with f old r (ok p q) bs e fair c z = let (t, g) = check-ok _ 1 0 _ p q e in (p, piece-sound f p q bs g .laid, leb-true (length f) fileLimit t)
+from-file-with f old r (refused n l) bs e fair c z = absurd (not-zero r (refusal n l) c (fair .0) z)
 
 -- ---- text to file to text
 
--- a text that was turned into a file: manner and length are permitted, so the piece decides
-pub record Taken (s : List ℕ) (manner : ℕ) (old : List ℕ) : Type 0 where
-  pub short : length s ≤ textLimit
-  pub answer : fileAnswer s manner (length old) ≡ pieceAnswer (mannerNumbered manner) (length old) (pieceOfText s)
-  pub leaves : fileLeaves s manner old ≡ pieceLeaves (mannerNumbered manner) (pieceOfText s) old
+text-kept : (s : List ℕ) (p : Piece) (manner : ℕ) (old : List ℕ) (r : ℕ) (new : List ℕ) → Bytes s → Taken s p → manner ≤ 1 → FileCall s manner old r new → TextKept p manner old r new
+unfolding verdict
+text-kept s p manner old r new bs t h c =
+    let w = fileOf (mannerNumbered manner) p in
+    let laid : LaidOut w p = accepted-laid s p [] bs (t .short) (t .piece) (mannerNumbered manner) in
+    let file = taken-writes s p manner old r new t h c in
+    let piece : numberOf r ≡ 0 → readFile (take (lengthOf r) new) ≡ ok p [] = λ z. let (e, k) = whole-file w old r new file z in ap readFile e ∙ laid-read w p laid k in
+    record {
+      file = file;
+      accepted = λ r' z c'. c' ∙ ap (λ x. packed (verdict x)) (piece z);
+      piece = piece;
+      text = λ other r' new' z c'. let (e, k) = whole-file w old r new file z in text-writes p (take (lengthOf r) new) other r' new' (piece z) (text-small w p laid k) c';
+      again = text-read w p laid;
+    }
 
-taken : (s : List ℕ) (manner : ℕ) (old : List ℕ) → fileAnswer s manner (length old) .number ≡ 0 → Taken s manner old
-unfolding fileAnswer fileLeaves pick
-taken s manner old z =
+from-text-with : (s : List ℕ) (manner room r : ℕ) (x : Outcome Piece) → TextFair (length s + 1) x → length s ≤ textLimit → pieceOfText s ≡ x
+    → r ≡ packed (pieceAnswer (mannerNumbered manner) room x) → numberOf r ≡ 0 → (p : Piece) × Taken s p
+unfolding pieceAnswer
+from-text-with s manner room r (ok p q) fair k e c z = (p, record { piece = e ∙ ap (ok p) fair; short = k })
+from-text-with s manner room r (refused n l) fair k e c z = absurd (not-zero r (refusal n l) c (fair .0) z)
+
+from-text : (s : List ℕ) (manner : ℕ) (old : List ℕ) (r : ℕ) (new : List ℕ) → FileCall s manner old r new → numberOf r ≡ 0 → (manner ≤ 1) × ((p : Piece) × Taken s p)
+unfolding fileAnswer pick
+from-text s manner old r new c z =
     by-test (leb manner 1)
     (λ t.
     by-test (leb (length s) textLimit)
-    (λ u. record { short = leb-true (length s) textLimit u; answer = rw (t, u) refl; leaves = rw (t, u) refl })
-    (λ u. let q : _≡_ {A = ℕ} 21 0 = rw (t, u) at z in absurd (omega (arith, q))))
-    (λ t. let q : _≡_ {A = ℕ} 30 0 = rw t at z in absurd (omega (arith, q)))
+    (λ u. (leb-true manner 1 t, from-text-with s manner (length old) r (pieceOfText s) (text-fair s) (leb-true (length s) textLimit u) refl (rw (t, u) at (c .0)) z))
+    (λ u. absurd (not-zero r (refusal 21 0) (rw (t, u) at (c .0)) (omega arith) z)))
+    (λ t. absurd (not-zero r (refusal 30 0) (rw t at (c .0)) (omega arith) z))
 
--- a file that was written is not too long
-not-long : (room n : ℕ) → writeAnswer room n .number ≡ 0 → n ≤ fileLimit
-unfolding writeAnswer pick
-not-long room n z =
-    by-test (leb n fileLimit)
-    (λ t. leb-true n fileLimit t)
-    (λ t. let q : _≡_ {A = ℕ} 29 0 = rw t at z in absurd (omega (arith, q)))
-
-refused-file : (m : Manner) (room n l : ℕ) → 1 ≤ n → pieceAnswer m room (refused n l) .number ≡ 0 → ⊥
-unfolding pieceAnswer
-refused-file m room n l h z = omega arith
-
-text-kept-with : (s : List ℕ) (manner : ℕ) (old other : List ℕ) (x : Outcome Piece) → Bytes s → Taken s manner old → pieceOfText s ≡ x → TextFair (length s + 1) x
-    → pieceAnswer (mannerNumbered manner) (length old) x .number ≡ 0 → (p : Piece) × TextKept s manner old other p
-unfolding pieceAnswer pieceLeaves
-text-kept-with s manner old other (ok p r) bs t e fair z =
-    let m = mannerNumbered manner in
-    let k : length (fileOf m p) ≤ fileLimit = not-long (length old) (length (fileOf m p)) z in
-    let laid : LaidOut (fileOf m p) p = accepted-laid s p r bs (t .short) e m in
-    let w = whole-written (writeAnswer (length old) (length (fileOf m p))) (writeLeaves (fileOf m p) old) (fileOf m p) old (file-written (fileOf m p) old k) z in
-    let answer = t .answer ∙ ap (pieceAnswer m (length old)) e in
-    let leaves = t .leaves ∙ ap (λ y. pieceLeaves m y old) e in
-    let file : fileWritten s manner old ≡ fileOf m p = ap₂ (λ (a : Answer) c. take (a .length) c) answer leaves ∙ w .0 in
-    let accepted : readFile (fileWritten s manner old) ≡ ok p [] = ap readFile file ∙ laid-read (fileOf m p) p laid k in
-    (p, record { piece = e ∙ ap (ok p) fair; file = file; accepted = accepted; text = rw accepted (text-written p [] other); again = text-read (fileOf m p) p laid })
-text-kept-with s manner old other (refused n l) bs t e fair z = absurd (refused-file (mannerNumbered manner) (length old) n l (fair .0) z)
-
--- text_to_file answered number 0 for the text s in the manner and the room old
-pub text-kept : (s : List ℕ) (manner : ℕ) (old other : List ℕ) → Bytes s → fileAnswer s manner (length old) .number ≡ 0 → (p : Piece) × TextKept s manner old other p
-text-kept s manner old other bs z =
-    let t = taken s manner old z in
-    text-kept-with s manner old other (pieceOfText s) bs t refl (text-fair s) (ap (λ (a : Answer). a .number) (sym (t .answer)) ∙ z)
+pub demand-2 : Demand2
+demand-2 =
+    record {
+      file = file-kept;
+      text = text-kept;
+      from-file = λ f old r new bs c z. from-file-with f old r (readFile f) bs refl (file-fair f bs) (c .0) z;
+      from-text = from-text;
+    }

@@ -1,20 +1,19 @@
 -- The exported number is taken apart again into number, place and length, as the header's macros do.
 use mathlib.Core.Path.{_≡_}
-use Prim.Native.Nat.{_/_, _%_, _^_}
+use Prim.Native.Nat.{ℕ, _≤_}
 use native.Mathlib.Omega.{arith}
 use Rattle.smf.specs.declared.Answer.{Answer}
 use Rattle.smf.proofs.WritingLaws.{Fits28}
-use Rattle.noferkash.specs.Packed.{packed}
+use Rattle.noferkash.specs.Packed.{packed, numberOf, Says}
 
-pub record TakenApart (a : Answer) : Type 0 where
-  pub number : packed a / 2 ^ 56 ≡ a .number
-  pub place : packed a / 2 ^ 28 % 2 ^ 28 ≡ a .place
-  pub length : packed a % 2 ^ 28 ≡ a .length
-
-pub taken-apart : (a : Answer) → Fits28 a → TakenApart a
-taken-apart a f =
+pub taken-apart : (r : ℕ) (a : Answer) → r ≡ packed a → Fits28 a → Says r a
+taken-apart r a e f =
     record {
-      number = omega (arith, f .place, f .length);
-      place = omega (arith, f .place, f .length);
-      length = omega (arith, f .place, f .length);
+      number = omega (arith, e, f .place, f .length);
+      place = omega (arith, e, f .place, f .length);
+      length = omega (arith, e, f .place, f .length);
     }
+
+-- an answer of another number than 0 does not say 0, wherever its place lies
+pub not-zero : (r : ℕ) (a : Answer) → r ≡ packed a → 1 ≤ a .number → numberOf r ≡ 0 → ⊥
+not-zero r a e h z = omega (arith, e, h, z)

@@ -1,49 +1,58 @@
--- Demand 2 for calls: "both round trips keep the piece". The answers and contents are those that the contracts of file_to_text and
--- text_to_file name; a text or file goes on as the bytes that the first call's answer counts.
+-- Demand 2 for calls: "both round trips keep the piece". A text or file goes on as the bytes that the first call's number counts in its
+-- room: take (lengthOf r) new.
 use mathlib.Core.Path.{_≡_}
 use Prim.Native.Nat.{ℕ, _<_, _≤_}
-use mathlib.Core.List.{List, []}
-use lib.ListN.{length, take}
+use mathlib.Core.List.{List, [], _++_}
+use lib.ListN.{length, take, drop}
+use Rattle.event.specs.Bytes.{Bytes}
 use Rattle.event.specs.Outcome.{ok}
 use Rattle.smf.specs.Piece.{Piece}
 use Rattle.smf.specs.Layout.{LaidOut}
 use Rattle.smf.specs.Manner.{fileOf}
 use Rattle.smf.specs.Reader.{fileLimit, readFile}
 use Rattle.smf.specs.Answer.{success, refusal, roomNeeded}
-use Rattle.smf.specs.declared.Answer.{Answer}
 use Rattle.midicsv.specs.Text.{textOf}
-use Rattle.midicsv.specs.PieceOfText.{pieceOfText}
-use Rattle.midicsv_write.specs.ToText.{textAnswer, textLeaves}
-use Rattle.midicsv_read.specs.ToFile.{mannerNumbered, fileAnswer, fileLeaves}
+use Rattle.midicsv.specs.PieceOfText.{pieceOfText, textLimit}
+use Rattle.midicsv_read.specs.ToFile.{mannerNumbered}
+use Rattle.noferkash.specs.Packed.{numberOf, lengthOf, Says}
+use Rattle.noferkash.specs.Calls.{CheckCall, TextCall, FileCall}
 
--- a call's answer a and the contents that it leaves, for `whole` as what is to be written into the room old where nothing forbids it
-pub record Written (a : Answer) (contents whole old : List ℕ) : Type 0 where
-  pub fits : length whole ≤ length old → (a ≡ success (length whole)) × (take (length whole) contents ≡ whole)
-  pub room : length old < length whole → (a ≡ roomNeeded (length whole)) × (contents ≡ old)
+-- a call that answers r and leaves new is to write `whole` into a room that held old: it is refused only for room (14), and succeeds
+-- wherever the room allows it; "lent bytes past it stay"
+pub record Writes (whole old : List ℕ) (r : ℕ) (new : List ℕ) : Type 0 where
+  pub fits : length whole ≤ length old → Says r (success (length whole)) × (new ≡ whole ++ drop (length whole) old)
+  pub room : length old < length whole → Says r (roomNeeded (length whole)) × (new ≡ old)
 
--- the bytes of the text that file_to_text wrote, for a file f and the room old
-abbrev pub textWritten : List ℕ → List ℕ → List ℕ
-textWritten f old = take (textAnswer (length old) (readFile f) .length) (textLeaves (readFile f) old)
+-- of a file: refused only for length (29) or room (14), and it succeeds wherever the length and the room allow it
+pub record WritesFile (whole old : List ℕ) (r : ℕ) (new : List ℕ) : Type 0 where
+  pub long : fileLimit < length whole → Says r (refusal 29 0) × (new ≡ old)
+  pub short : length whole ≤ fileLimit → Writes whole old r new
 
--- the bytes of the file that text_to_file wrote
-abbrev pub fileWritten : List ℕ → ℕ → List ℕ → List ℕ
-fileWritten s manner old = take (fileAnswer s manner (length old) .length) (fileLeaves s manner old)
+-- file to text to file, for a file whose piece is p: file_to_text answered r and left new in the room old. Its text, turned back in
+-- either manner, is the file of that same piece, which is read as that piece
+pub record FileKept (p : Piece) (old : List ℕ) (r : ℕ) (new : List ℕ) : Type 0 where
+  pub text : Writes (textOf p) old r new
+  pub back : (manner : ℕ) (other : List ℕ) (r' : ℕ) (new' : List ℕ) → numberOf r ≡ 0 → manner ≤ 1 → FileCall (take (lengthOf r) new) manner other r' new'
+      → WritesFile (fileOf (mannerNumbered manner) p) other r' new'
+  pub same : (manner : ℕ) → length (fileOf (mannerNumbered manner) p) ≤ fileLimit → readFile (fileOf (mannerNumbered manner) p) ≡ ok p []
 
--- file to text to file: file_to_text succeeded on f in the room old; its text, turned back in the manner in the room other, is the file
--- of f's piece. "Where the way is refused it is only for length (29) or room (14)"
-pub record FileKept (f old : List ℕ) (manner : ℕ) (other : List ℕ) (p : Piece) : Type 0 where
-  pub laid : LaidOut f p
-  pub text : textWritten f old ≡ textOf p
-  pub long : fileLimit < length (fileOf (mannerNumbered manner) p) → (fileAnswer (textWritten f old) manner (length other) ≡ refusal 29 0) × (fileLeaves (textWritten f old) manner other ≡ other)
-  pub back : length (fileOf (mannerNumbered manner) p) ≤ fileLimit
-      → Written (fileAnswer (textWritten f old) manner (length other)) (fileLeaves (textWritten f old) manner other) (fileOf (mannerNumbered manner) p) other
-  pub same : length (fileOf (mannerNumbered manner) p) ≤ fileLimit → readFile (fileOf (mannerNumbered manner) p) ≡ ok p []
-
--- text to file to text: text_to_file succeeded on s in the manner and the room old; its file is accepted, its piece is the text's piece,
--- and its text, in the room other, is read as that piece again
-pub record TextKept (s : List ℕ) (manner : ℕ) (old other : List ℕ) (p : Piece) : Type 0 where
-  pub piece : pieceOfText s ≡ ok p []
-  pub file : fileWritten s manner old ≡ fileOf (mannerNumbered manner) p
-  pub accepted : readFile (fileWritten s manner old) ≡ ok p []
-  pub text : Written (textAnswer (length other) (readFile (fileWritten s manner old))) (textLeaves (readFile (fileWritten s manner old)) other) (textOf p) other
+-- text to file to text, for a text whose piece is p: text_to_file answered r and left new in the room old. Its file, "if not refused by
+-- 29 or 14, is accepted, its piece is that piece, and its text is read as that piece again"
+pub record TextKept (p : Piece) (manner : ℕ) (old : List ℕ) (r : ℕ) (new : List ℕ) : Type 0 where
+  pub file : WritesFile (fileOf (mannerNumbered manner) p) old r new
+  pub accepted : (r' : ℕ) → numberOf r ≡ 0 → CheckCall (take (lengthOf r) new) r' → r' ≡ 0
+  pub piece : numberOf r ≡ 0 → readFile (take (lengthOf r) new) ≡ ok p []
+  pub text : (other : List ℕ) (r' : ℕ) (new' : List ℕ) → numberOf r ≡ 0 → TextCall (take (lengthOf r) new) other r' new' → Writes (textOf p) other r' new'
   pub again : pieceOfText (textOf p) ≡ ok p []
+
+-- a text that has a piece and is not too long for text_to_file
+pub record Taken (s : List ℕ) (p : Piece) : Type 0 where
+  pub piece : pieceOfText s ≡ ok p []
+  pub short : length s ≤ textLimit
+
+-- for every accepted file and for every text that has a piece; and a call that answers number 0 had such a file, such a text
+pub record Demand2 : Type 0 where
+  pub file : (f : List ℕ) (p : Piece) (old : List ℕ) (r : ℕ) (new : List ℕ) → LaidOut f p → length f ≤ fileLimit → TextCall f old r new → FileKept p old r new
+  pub text : (s : List ℕ) (p : Piece) (manner : ℕ) (old : List ℕ) (r : ℕ) (new : List ℕ) → Bytes s → Taken s p → manner ≤ 1 → FileCall s manner old r new → TextKept p manner old r new
+  pub from-file : (f old : List ℕ) (r : ℕ) (new : List ℕ) → Bytes f → TextCall f old r new → numberOf r ≡ 0 → (p : Piece) × LaidOut f p × (length f ≤ fileLimit)
+  pub from-text : (s : List ℕ) (manner : ℕ) (old : List ℕ) (r : ℕ) (new : List ℕ) → FileCall s manner old r new → numberOf r ≡ 0 → (manner ≤ 1) × ((p : Piece) × Taken s p)

@@ -1,13 +1,8 @@
 // The C interface.
 ghost use mathlib.Core.Path.{_≡_};
 ghost use Prim.Native.Nat.{_<_};
-ghost use Rattle.smf.specs.Reader.{readFile};
-ghost use lib.ListN.{length};
-ghost use Rattle.smf.specs.Answer.{verdict};
-ghost use Rattle.midicsv_read.specs.ToFile.{fileAnswer, fileLeaves};
-ghost use Rattle.midicsv_write.specs.ToText.{textAnswer, textLeaves};
-ghost use Rattle.smf_write.specs.Tidy.{tidyAnswer, tidyLeaves};
 ghost use Rattle.noferkash.specs.Packed.{packed};
+ghost use Rattle.noferkash.specs.Calls.{CheckCall, TextCall, FileCall, TidyCall};
 
 // The answer as one number of 64 bits.
 fn pack(a: smf::Answer) -> u64
@@ -22,28 +17,28 @@ fn pack(a: smf::Answer) -> u64
 
 #[no_mangle]
 pub extern "C" fn noferkash_check(file: &[u8]) -> u64
-    ensures { λ r. ⌜ r ≡ packed (verdict (readFile (now (file .entry)))) ⌝ }
+    ensures { λ r. ⌜ CheckCall (now (file .entry)) r ⌝ }
 {
     pack(smf::check::check(file))
 }
 
 #[no_mangle]
 pub extern "C" fn noferkash_file_to_text(file: &[u8], out: &mut [u8]) -> u64
-    ensures { λ r. ⌜ r ≡ packed (textAnswer (length (now (out .entry))) (readFile (now (file .entry)))) ⌝ ∗ ⌜ now (out .exit) ≡ textLeaves (readFile (now (file .entry))) (now (out .entry)) ⌝ }
+    ensures { λ r. ⌜ TextCall (now (file .entry)) (now (out .entry)) r (now (out .exit)) ⌝ }
 {
     pack(midicsv_write::to_text::file_to_text(file, out))
 }
 
 #[no_mangle]
 pub extern "C" fn noferkash_text_to_file(text: &[u8], manner: u32, out: &mut [u8]) -> u64
-    ensures { λ r. ⌜ r ≡ packed (fileAnswer (now (text .entry)) manner (length (now (out .entry)))) ⌝ ∗ ⌜ now (out .exit) ≡ fileLeaves (now (text .entry)) manner (now (out .entry)) ⌝ }
+    ensures { λ r. ⌜ FileCall (now (text .entry)) manner (now (out .entry)) r (now (out .exit)) ⌝ }
 {
     pack(midicsv_read::to_file::text_to_file(text, manner, out))
 }
 
 #[no_mangle]
 pub extern "C" fn noferkash_tidy(file: &[u8], out: &mut [u8]) -> u64
-    ensures { λ r. ⌜ r ≡ packed (tidyAnswer (length (now (out .entry))) (readFile (now (file .entry)))) ⌝ ∗ ⌜ now (out .exit) ≡ tidyLeaves (readFile (now (file .entry))) (now (out .entry)) ⌝ }
+    ensures { λ r. ⌜ TidyCall (now (file .entry)) (now (out .entry)) r (now (out .exit)) ⌝ }
 {
     pack(smf_write::tidy::tidy(file, out))
 }

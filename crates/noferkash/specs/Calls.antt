@@ -1,0 +1,27 @@
+-- What each exported function promises of a call: the number r that it answers and what the lent room, which held old, holds afterwards.
+use mathlib.Core.Path.{_≡_}
+use Prim.Native.Nat.{ℕ}
+use mathlib.Core.List.{List}
+use lib.ListN.{length}
+use Rattle.smf.specs.Reader.{readFile}
+use Rattle.smf.specs.Answer.{verdict}
+use Rattle.midicsv_read.specs.ToFile.{fileAnswer, fileLeaves}
+use Rattle.midicsv_write.specs.ToText.{textAnswer, textLeaves}
+use Rattle.smf_write.specs.Tidy.{tidyAnswer, tidyLeaves}
+use Rattle.noferkash.specs.Packed.{packed}
+
+-- noferkash_check on the file f
+abbrev pub CheckCall : List ℕ → ℕ → Type 0
+CheckCall f r = r ≡ packed (verdict (readFile f))
+
+-- noferkash_file_to_text on the file f
+abbrev pub TextCall : List ℕ → List ℕ → ℕ → List ℕ → Type 0
+TextCall f old r new = (r ≡ packed (textAnswer (length old) (readFile f))) × (new ≡ textLeaves (readFile f) old)
+
+-- noferkash_text_to_file on the text s in the manner
+abbrev pub FileCall : List ℕ → ℕ → List ℕ → ℕ → List ℕ → Type 0
+FileCall s manner old r new = (r ≡ packed (fileAnswer s manner (length old))) × (new ≡ fileLeaves s manner old)
+
+-- noferkash_tidy on the file f
+abbrev pub TidyCall : List ℕ → List ℕ → ℕ → List ℕ → Type 0
+TidyCall f old r new = (r ≡ packed (tidyAnswer (length old) (readFile f))) × (new ≡ tidyLeaves (readFile f) old)
