@@ -1,10 +1,14 @@
 -- The exported number is taken apart again into number, place and length, as the header's macros do.
-use mathlib.Core.Path.{_≡_}
-use Prim.Native.Nat.{ℕ, _≤_}
+use mathlib.Core.Path.{_≡_, ap}
+use Prim.Native.Nat.{ℕ, _<_, _≤_}
 use native.Mathlib.Omega.{arith}
 use Rattle.smf.specs.declared.Answer.{Answer}
 use Rattle.smf.proofs.WritingLaws.{Fits28}
 use Rattle.noferkash.specs.Packed.{packed, numberOf, Says}
+
+-- what pack asks of an answer that is known
+pub small : (a b : Answer) → a ≡ b → Fits28 b → (a .place < 268435456) × (a .length < 268435456)
+small a b e f = (omega (arith, ap (λ (v : Answer). v .place) e, f .place), omega (arith, ap (λ (v : Answer). v .length) e, f .length))
 
 pub taken-apart : (r : ℕ) (a : Answer) → r ≡ packed a → Fits28 a → Says r a
 taken-apart r a e f =

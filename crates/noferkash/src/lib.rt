@@ -1,7 +1,8 @@
 // The C interface.
 ghost use mathlib.Core.Path.{_≡_};
 ghost use Prim.Native.Nat.{_<_};
-ghost use Rattle.noferkash.specs.Packed.{packed};
+ghost use Rattle.smf.specs.Demand3.{Demand3};
+ghost use Rattle.noferkash.specs.Packed.{packed, numberOf};
 ghost use Rattle.noferkash.specs.Calls.{CheckCall, TextCall, FileCall, TidyCall};
 
 // The answer as one number of 64 bits.
@@ -17,7 +18,7 @@ fn pack(a: smf::Answer) -> u64
 
 #[no_mangle]
 pub extern "C" fn noferkash_check(file: &[u8]) -> u64
-    ensures { λ r. ⌜ CheckCall (now (file .entry)) r ⌝ }
+    ensures { λ r. ⌜ CheckCall (now (file .entry)) r ⌝ ∗ ⌜ Demand3 (now (file .entry)) (numberOf r) ⌝ }
 {
     pack(smf::check::check(file))
 }

@@ -1,9 +1,8 @@
-use mathlib.Core.Path.{subst, sym, _∙_, ap}
-use Prim.Native.Nat.{_<_}
+use mathlib.Core.Path.{_∙_, ap}
 use lib.ListN.{length}
-use Rattle.smf.specs.declared.Answer.{Answer}
 use Rattle.midicsv_read.proofs.AnswerLaws.{answer-fits}
 use Rattle.noferkash.specs.Packed.{packed}
+use Rattle.noferkash.proofs.PackedLaws.{small}
 use borrow.Author.Needs.{needs}
 use Rattle.noferkash.proofs.noferkash_text_to_file.Statement.{statement}
 use Rattle.noferkash.proofs.noferkash_text_to_file.Tie as tie
@@ -13,9 +12,7 @@ text-to-file-requires c κs = search needs
 
 pack-requires : tie.Need-pack-requires
 pack-requires c κs = let a = c .before .before .before .before .before .before .args in
-    let fits = answer-fits (a .text .now) (a .manner) (length (a .out .now)) in
-    let e = c .before .before .text-to-file .ensures .0 in
-    (subst (λ (v : Answer). v .place < 268435456) (sym e) (fits .place), subst (λ (v : Answer). v .length < 268435456) (sym e) (fits .length))
+    small _ _ (c .before .before .text-to-file .ensures .0) (answer-fits (a .text .now) (a .manner) (length (a .out .now)))
 
 same-length : tie.Need-same-length
 same-length c = search needs

@@ -1,12 +1,10 @@
-use mathlib.Core.Path.{subst}
-use Prim.Native.Nat.{_<_}
+use mathlib.Core.Path.{_∙_, ap}
 use lib.ListN.{length}
 use Rattle.event.proofs.BytesLaws.{bytes-of}
-use Rattle.smf.specs.declared.Answer.{Answer}
 use Rattle.smf_write.proofs.AnswerLaws.{answer-fits}
 use Rattle.noferkash.specs.Packed.{packed}
+use Rattle.noferkash.proofs.PackedLaws.{small}
 use native.Mathlib.Omega.{arith}
-use mathlib.Core.Path.{sym, _∙_, ap}
 use borrow.Author.Needs.{needs}
 use Rattle.noferkash.proofs.noferkash_tidy.Statement.{statement}
 use Rattle.noferkash.proofs.noferkash_tidy.Tie as tie
@@ -17,9 +15,7 @@ tidy-requires c κs = search needs
 pack-requires : tie.Need-pack-requires
 pack-requires c κs = let a = c .before .before .before .before .before .before .args in
     let bytes = bytes-of (a .file .now) (λ i. omega (arith, c .before .before .before .before .before .shared-slice-known .given i)) in
-    let small = answer-fits (length (a .out .now)) (a .file .now) bytes in
-    let e = c .before .before .tidy .ensures .0 in
-    (subst (λ (v : Answer). v .place < 268435456) (sym e) (small .place), subst (λ (v : Answer). v .length < 268435456) (sym e) (small .length))
+    small _ _ (c .before .before .tidy .ensures .0) (answer-fits (length (a .out .now)) (a .file .now) bytes)
 
 same-length : tie.Need-same-length
 same-length c = search needs
