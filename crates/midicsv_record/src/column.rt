@@ -16,6 +16,7 @@ use super::ColumnKind;
 use super::ColumnStep;
 use super::ColumnsStep;
 use super::table::column_at;
+use super::table::column_count;
 use super::text::is_word;
 use midicsv_scan::FieldStep;
 use midicsv_scan::fields::field;
@@ -150,6 +151,10 @@ fn column(line: &[u8], name: u8, i: usize) -> ColumnStep
     requires { ⌜ Ready (now line) name ⌝ ∗ ⌜ i < 5 ⌝ }
     ensures { λ r. ⌜ valueAs r ≡ readFirst (drop i (columnsAt name)) (getD (laterIn (now (line .entry))) i (num 0)) ⌝ }
 {
+    // no field is looked for where there is no column
+    if column_count(name) <= i {
+        return ColumnStep::Value(0);
+    }
     value_in(line, field(line, 3 + i), column_at(name, i))
 }
 

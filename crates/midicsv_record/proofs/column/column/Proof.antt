@@ -1,8 +1,25 @@
-use Rattle.midicsv_record.proofs.FieldInLaws.{column-read}
-use mathlib.Core.Path.{_∙_}
+use native.Mathlib.Omega.{arith}
+use mathlib.Core.Path.{_≡_, refl, _∙_}
+use Prim.Native.Nat.{_≤_}
+use mathlib.Core.List.{[]}
+use lib.ListN.{length, drop, drop-of-length-le}
 use borrow.Author.Needs.{needs}
+use Rattle.midicsv_record.specs.Column.{valueAs}
+use Rattle.midicsv_record.specs.Table.{columnsAt, readFirst}
+use Rattle.midicsv_record.proofs.FieldInLaws.{column-read}
 use Rattle.midicsv_record.proofs.column.column.Statement.{statement}
 use Rattle.midicsv_record.proofs.column.column.Tie as tie
+
+column-count-requires : tie.Need-column-count-requires
+column-count-requires c κs = search needs
+
+returns : tie.Need-returns
+unfolding valueAs readFirst
+returns c =
+    let a = c .before .before .before .args in
+    let past : length (columnsAt (a .name)) ≤ a .i = omega (arith, c .before .column-count .ensures, c .if1 .taken) in
+    let none : drop (a .i) (columnsAt (a .name)) ≡ [] = drop-of-length-le (columnsAt (a .name)) past in
+    rw none refl
 
 add-field : tie.Need-add-field
 add-field c = search needs
@@ -16,9 +33,10 @@ column-at-requires c κs = search needs
 value-in-requires : tie.Need-value-in-requires
 value-in-requires c κs = search needs
 
-returns : tie.Need-returns
-returns c = let a = c .before .before .before .before .args in c .value-in .ensures ∙ column-read (a .line .now) (a .name) (a .i) _ _ (c .before .before .before .before .pre .0) (c .before .column-at .ensures) (c .before .before .field .ensures)
+returns-2 : tie.Need-returns-2
+returns-2 c =
+    let a = c .before .before .before .before .before .before .args in
+    c .value-in .ensures ∙ column-read (a .line .now) (a .name) (a .i) _ _ (c .before .before .before .before .before .before .pre .0) (c .before .column-at .ensures) (c .before .before .field .ensures)
 
 pub column-spec : {M : Type 1} → statement M
-column-spec =
-    tie.close (tie.spec add-field field-requires column-at-requires value-in-requires returns)
+column-spec = tie.close (tie.spec column-count-requires returns add-field field-requires column-at-requires value-in-requires returns-2)
