@@ -19,10 +19,7 @@ returns c =
     let a = c .before .before .before .args in
     let past : length (columnsAt (a .name)) ≤ a .i = omega (arith, c .before .column-count .ensures, c .if1 .taken) in
     let none : drop (a .i) (columnsAt (a .name)) ≡ [] = drop-of-length-le (columnsAt (a .name)) past in
-    rw none refl
-
-add-field : tie.Need-add-field
-add-field c = search needs
+    λ fs g. rw none refl
 
 field-requires : tie.Need-field-requires
 field-requires c κs = search needs
@@ -36,7 +33,7 @@ value-in-requires c κs = search needs
 returns-2 : tie.Need-returns-2
 returns-2 c =
     let a = c .before .before .before .before .before .before .args in
-    c .value-in .ensures ∙ column-read (a .line .now) (a .name) (a .i) _ _ (c .before .before .before .before .before .before .pre .0) (c .before .column-at .ensures) (c .before .before .field .ensures)
+    λ fs g. c .value-in .ensures ∙ column-read (a .later .now) (a .name) (a .i) _ _ fs g (c .before .column-at .ensures) (c .before .before .field .ensures)
 
 pub column-spec : {M : Type 1} → statement M
-column-spec = tie.close (tie.spec column-count-requires returns add-field field-requires column-at-requires value-in-requires returns-2)
+column-spec = tie.close (tie.spec column-count-requires returns field-requires column-at-requires value-in-requires returns-2)
