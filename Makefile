@@ -4,13 +4,15 @@
 # make install   PREFIX=/usr/local DESTDIR=: header, library, pkg-config file, tool, man pages
 # make uninstall takes these away again
 # make test      the gate: every test, then every proof from nothing
-# make bench     times checking, tidying and writing as text a file of about 1 MiB: ours beside the second
-#                program's and, of texts, beside a Rust converter made for speed and midicsv, if installed
+# make bench     one table of times on a file of about 1 MiB: each operation beside the second program and,
+#                if installed, midicsv and csvmidi, and how our time grows (docs/PERFORMANCE.md)
 # ARCHIVE=FILE   uses a proved library that is already built; then rt is not needed
+# BUILD=FOLDER   holds what is built here in place of target
 PROVED = target/staticlib/libnoferkash.a
 ARCHIVE = $(PROVED)
-LIBRARY = target/libnoferkash.a
-TOOL = target/noferkash
+BUILD = target
+LIBRARY = $(BUILD)/libnoferkash.a
+TOOL = $(BUILD)/noferkash
 EXAMPLE = tests/corpus/gen-lilypond__own1.mid
 
 PREFIX = /usr/local
@@ -30,31 +32,37 @@ ifneq ($(MAKECMDGOALS),install)
 .PHONY: $(PROVED)
 endif
 
-example: target/check_file
-	target/check_file $(EXAMPLE)
+example: $(BUILD)/check_file
+	$(BUILD)/check_file $(EXAMPLE)
 
 $(PROVED):
 	rt staticlib noferkash
 
-target/check_file: examples/check_file.c include/noferkash.h $(ARCHIVE)
-	$(CC) -std=c99 -Wall -Wextra -O2 -Iinclude -o $@ examples/check_file.c $(ARCHIVE)
+# Which archive the last build took: another one counts as new, however old it is.
+.PHONY: always
+$(BUILD)/archive: always
+	@mkdir -p $(BUILD)
+	@echo $(abspath $(ARCHIVE)) | cmp -s - $@ || echo $(abspath $(ARCHIVE)) >$@
+
+$(BUILD)/check_file: examples/check_file.c include/noferkash.h $(ARCHIVE) $(BUILD)/archive
+	$(COMPILE) $(LDFLAGS) -o $@ examples/check_file.c $(ARCHIVE)
 
 tool: $(TOOL)
 
-target/refusal_words.o: tools/refusal_words.c include/noferkash.h
-	@mkdir -p target
+$(BUILD)/refusal_words.o: tools/refusal_words.c include/noferkash.h
+	@mkdir -p $(BUILD)
 	$(COMPILE) -c -o $@ tools/refusal_words.c
 
 # A copy: the file that rt made stays as rt made it. Moved in place when whole.
-$(LIBRARY): target/refusal_words.o $(ARCHIVE)
+$(LIBRARY): $(BUILD)/refusal_words.o $(ARCHIVE) $(BUILD)/archive
 	cp $(ARCHIVE) $@.new
-	$(AR) rs $@.new target/refusal_words.o
+	$(AR) rs $@.new $(BUILD)/refusal_words.o
 	mv $@.new $@
 
 $(TOOL): tools/noferkash.c tools/read.c tools/write.c tools/tool.h include/noferkash.h $(LIBRARY)
 	$(COMPILE) $(LDFLAGS) -o $@ tools/noferkash.c tools/read.c tools/write.c $(LIBRARY)
 
-target/convert_file: examples/convert_file.c include/noferkash.h $(LIBRARY)
+$(BUILD)/convert_file: examples/convert_file.c include/noferkash.h $(LIBRARY)
 	$(COMPILE) $(LDFLAGS) -o $@ examples/convert_file.c $(LIBRARY)
 
 install: $(TOOL)

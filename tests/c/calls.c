@@ -4,314 +4,43 @@
 #include <stdio.h>
 #include <string.h>
 
-#define LIMIT 1048576
-#define TEXT_LIMIT (25 * LIMIT)
-#define READ_LIMIT 33554432
-
-#define HEADER "MThd\0\0\0\6\0\0\0\1\0\x60"
-#define CHUNK(length, body) "MTrk\0\0\0" length body
-/* The length goes up to 255; the body begins at byte 22. */
-#define TRACK(length, body) HEADER CHUNK(length, body)
-#define END "\0\xFF\x2F\0"
-#define FAR "\xFF\xFF\xFF\x7F\xC0\0"
-#define FOUR_FAR FAR FAR FAR FAR
-
-struct file_case {
-    const char *what;
-    const char *bytes;
-    size_t length;
-    int number;
-    size_t place;
-};
-
-/* The length of a string constant, without the 0 that C puts after it. */
-#define BYTES(constant) constant, sizeof(constant) - 1
-
-static const struct file_case cases[] = {
-    {"the example of document 01",
-     BYTES(TRACK("\x11", "\0\xFF\3\2\x41\x22\0\x90\x3C\x40\x60\x3C\0" END)), NOFERKASH_OK, 0},
-    {"only End_track", BYTES(TRACK("\4", END)), NOFERKASH_OK, 0},
-    {"a padded delta", BYTES(TRACK("\7", "\x80\x80\x80" END)), NOFERKASH_OK, 0},
-    {"empty file", BYTES(""), NOFERKASH_FILE_CUT_SHORT, 0},
-    {"13 bytes", "MThd\0\0\0\6\0\0\0\1\0", 13, NOFERKASH_FILE_CUT_SHORT, 0},
-    {"no track", BYTES(HEADER), NOFERKASH_FILE_CUT_SHORT, 14},
-    {"track length past the end", BYTES(TRACK("\5", END)), NOFERKASH_FILE_CUT_SHORT, 14},
-    {"header tag", BYTES("MThe\0\0\0\6\0\0\0\1\0\x60"), NOFERKASH_BAD_HEADER, 0},
-    {"header length", BYTES("MThd\0\0\0\7\0\0\0\1\0\x60"), NOFERKASH_BAD_HEADER, 4},
-    {"format 3", BYTES("MThd\0\0\0\6\0\3\0\1\0\x60"), NOFERKASH_BAD_HEADER, 8},
-    {"format 0 with 2 tracks", BYTES("MThd\0\0\0\6\0\0\0\2\0\x60"), NOFERKASH_BAD_HEADER, 10},
-    {"film division", BYTES("MThd\0\0\0\6\0\0\0\1\xE7\x28"), NOFERKASH_BAD_HEADER, 12},
-    {"track tag", BYTES(HEADER "MTrl\0\0\0\4" END), NOFERKASH_BAD_TRACK_TAG, 14},
-    {"delta of five bytes", BYTES(TRACK("\10", "\x80\x80\x80\x80" END)),
-     NOFERKASH_VARIABLE_TOO_LONG, 22},
-    {"no End_track", BYTES(TRACK("\4", "\0\x90\x3C\x40")), NOFERKASH_EVENT_CUT_SHORT, 26},
-    {"Time too great",
-     BYTES(TRACK("\x64", FOUR_FAR FOUR_FAR FOUR_FAR FOUR_FAR "\x10\xFF\x2F\0")),
-     NOFERKASH_TIME_TOO_GREAT, 118},
-    {"greatest Time", BYTES(TRACK("\x64", FOUR_FAR FOUR_FAR FOUR_FAR FOUR_FAR "\x0F\xFF\x2F\0")),
-     NOFERKASH_OK, 0},
-    {"no status in force", BYTES(TRACK("\7", "\0\x3C\x40" END)), NOFERKASH_BAD_STATUS, 22},
-    {"channel data over 127", BYTES(TRACK("\10", "\0\x90\x3C\x80" END)),
-     NOFERKASH_BAD_CHANNEL_DATA, 22},
-    {"End_track of length 1", BYTES(TRACK("\5", "\0\xFF\x2F\1\0")), NOFERKASH_BAD_META_LENGTH, 22},
-    {"Tempo 0", BYTES(TRACK("\13", "\0\xFF\x51\3\0\0\0" END)), NOFERKASH_BAD_META_VALUE, 22},
-    {"byte after End_track", BYTES(TRACK("\5", END "\0")), NOFERKASH_BYTES_AFTER_END_TRACK, 26},
-    {"byte after the last track", BYTES(TRACK("\4", END "\0")),
-     NOFERKASH_BYTES_AFTER_LAST_TRACK, 26}
-};
-
-/* A file, the room lent for it, and the answer due. With 0 the bytes of `due`
- * are written; 14 writes none but has their length. */
-struct written_case {
-    const char *what;
-    const char *bytes;
-    size_t length;
-    size_t room;
-    int number;
-    size_t place;
-    const char *due;
-    size_t due_length;
-};
-
-/* The example of document 01 in both manners, 40 and 39 bytes. */
-#define FULL TRACK("\x12", "\0\xFF\3\2\x41\x22\0\x90\x3C\x40\x60\x90\x3C\0" END)
-#define SHORT TRACK("\x11", "\0\xFF\3\2\x41\x22\0\x90\x3C\x40\x60\x3C\0" END)
-#define ONLY_END TRACK("\4", END)
-#define TWO_TRACKS "MThd\0\0\0\6\0\1\0\2\0\x60"
-/* A refusal other than 14 has the length 0. */
-#define NOTHING "", 0
-
-static const struct written_case tidy_cases[] = {
-    {"manner 0 becomes manner 1", BYTES(FULL), 39, NOFERKASH_OK, 0, BYTES(SHORT)},
-    {"room larger", BYTES(FULL), 50, NOFERKASH_OK, 0, BYTES(SHORT)},
-    {"room one short", BYTES(FULL), 38, NOFERKASH_ROOM_TOO_SMALL, 0, BYTES(SHORT)},
-    {"room of one byte", BYTES(FULL), 1, NOFERKASH_ROOM_TOO_SMALL, 0, BYTES(SHORT)},
-    {"room of none", BYTES(FULL), 0, NOFERKASH_ROOM_TOO_SMALL, 0, BYTES(SHORT)},
-    {"manner 1 stays", BYTES(SHORT), 39, NOFERKASH_OK, 0, BYTES(SHORT)},
-    {"a delta 80 00", BYTES(TRACK("\5", "\x80" END)), 26, NOFERKASH_OK, 0, BYTES(ONLY_END)},
-    {"a delta of four bytes", BYTES(TRACK("\7", "\x80\x80\x80" END)), 26, NOFERKASH_OK, 0,
-     BYTES(ONLY_END)},
-    {"a delta 80 81 00", BYTES(TRACK("\6", "\x80\x81\0\xFF\x2F\0")), 30, NOFERKASH_OK, 0,
-     BYTES(TRACK("\5", "\x81\0\xFF\x2F\0"))},
-    {"the length 80 00 of End_track", BYTES(TRACK("\5", "\0\xFF\x2F\x80\0")), 26, NOFERKASH_OK, 0,
-     BYTES(ONLY_END)},
-    {"the length 80 80 02 of a text", BYTES(TRACK("\14", "\0\xFF\1\x80\x80\2\x80\0" END)), 32,
-     NOFERKASH_OK, 0, BYTES(TRACK("\12", "\0\xFF\1\2\x80\0" END))},
-    {"the status of another channel", BYTES(TRACK("\14", "\0\x90\x3C\x40\0\x91\x3C\x40" END)), 34,
-     NOFERKASH_OK, 0, BYTES(TRACK("\14", "\0\x90\x3C\x40\0\x91\x3C\x40" END))},
-    {"the status after a meta event",
-     BYTES(TRACK("\20", "\0\x90\x3C\x40\0\xFF\1\0\0\x90\x3C\0" END)), 38, NOFERKASH_OK, 0,
-     BYTES(TRACK("\20", "\0\x90\x3C\x40\0\xFF\1\0\0\x90\x3C\0" END))},
-    {"the status after a system exclusive event",
-     BYTES(TRACK("\17", "\0\x90\x3C\x40\0\xF0\0\0\x90\x3C\0" END)), 37, NOFERKASH_OK, 0,
-     BYTES(TRACK("\17", "\0\x90\x3C\x40\0\xF0\0\0\x90\x3C\0" END))},
-    {"the status in the next track",
-     BYTES(TWO_TRACKS CHUNK("\10", "\0\x90\x3C\x40" END)
-           CHUNK("\14", "\0\x90\x3C\0\0\x90\x3C\0" END)), 60, NOFERKASH_OK, 0,
-     BYTES(TWO_TRACKS CHUNK("\10", "\0\x90\x3C\x40" END)
-           CHUNK("\13", "\0\x90\x3C\0\0\x3C\0" END))},
-
-    {"empty file", BYTES(""), 40, NOFERKASH_FILE_CUT_SHORT, 0, NOTHING},
-    {"film division", BYTES("MThd\0\0\0\6\0\0\0\1\xE7\x28" CHUNK("\4", END)), 40,
-     NOFERKASH_BAD_HEADER, 12, NOTHING},
-    {"Tempo 0 after notes",
-     BYTES(TRACK("\23", "\0\x90\x3C\x40\0\x90\x3C\0\0\xFF\x51\3\0\0\0" END)), 60,
-     NOFERKASH_BAD_META_VALUE, 30, NOTHING},
-    {"byte after the last track", BYTES(FULL "\0"), 60, NOFERKASH_BYTES_AFTER_LAST_TRACK, 40,
-     NOTHING},
-    {"a fault, and no room", BYTES(FULL "\0"), 0, NOFERKASH_BYTES_AFTER_LAST_TRACK, 40, NOTHING}
-};
-
-/* In the texts below a quote or a backslash stands as C has it. */
-#define HEADER_LINE "0, 0, Header, 0, 1, 96\n"
-#define START_LINE "1, 0, Start_track\n"
-#define END_LINES "1, 0, End_track\n0, 0, End_of_file\n"
-#define TEXT(lines) HEADER_LINE START_LINE lines END_LINES
-#define EXAMPLE_TEXT \
-    HEADER_LINE START_LINE "1, 0, Title_t, \"A\"\"\"\n1, 0, Note_on_c, 0, 60, 64\n" \
-    "1, 96, Note_on_c, 0, 60, 0\n1, 96, End_track\n0, 0, End_of_file\n"
-/* One event of each kind, End_track excepted, and each of the seven texts. */
-#define EVERY_KIND \
-    "\0\x80\0\x7F" "\0\x91\x3C\0" "\0\xA2\1\2" "\0\xB3\7\x64" "\0\xC4\x7F" "\0\xD5\0" \
-    "\0\xE6\0\x40" "\0\x7F\x7F" "\0\xF0\3\x43\x12\xF7" "\0\xF7\1\xFF" \
-    "\0\xFF\0\2\xFF\xFE" "\0\xFF\1\1t" "\0\xFF\2\1c" "\0\xFF\3\1n" "\0\xFF\4\1i" "\0\xFF\5\1l" \
-    "\0\xFF\6\1m" "\0\xFF\7\0" "\0\xFF\x20\1\xFF" "\0\xFF\x21\1\x10" "\0\xFF\x51\3\x0B\x71\xB0" \
-    "\0\xFF\x54\5\xFF\0\1\2\x63" "\0\xFF\x58\4\6\3\x24\x08" "\0\xFF\x59\2\xFD\1" \
-    "\0\xFF\x59\2\7\0" "\0\xFF\x7F\2\0\x0A" "\0\xFF\x60\0" "\0\xFF\x08\1\x64"
-#define EVERY_KIND_LINES \
-    "1, 0, Note_off_c, 0, 0, 127\n1, 0, Note_on_c, 1, 60, 0\n1, 0, Poly_aftertouch_c, 2, 1, 2\n" \
-    "1, 0, Control_c, 3, 7, 100\n1, 0, Program_c, 4, 127\n1, 0, Channel_aftertouch_c, 5, 0\n" \
-    "1, 0, Pitch_bend_c, 6, 8192\n1, 0, Pitch_bend_c, 6, 16383\n" \
-    "1, 0, System_exclusive, 3, 67, 18, 247\n1, 0, System_exclusive_packet, 1, 255\n" \
-    "1, 0, Sequence_number, 65534\n1, 0, Text_t, \"t\"\n1, 0, Copyright_t, \"c\"\n" \
-    "1, 0, Title_t, \"n\"\n1, 0, Instrument_name_t, \"i\"\n1, 0, Lyric_t, \"l\"\n" \
-    "1, 0, Marker_t, \"m\"\n1, 0, Cue_point_t, \"\"\n1, 0, Channel_prefix, 255\n" \
-    "1, 0, MIDI_port, 16\n1, 0, Tempo, 750000\n1, 0, SMPTE_offset, 255, 0, 1, 2, 99\n" \
-    "1, 0, Time_signature, 6, 3, 36, 8\n1, 0, Key_signature, -3, \"minor\"\n" \
-    "1, 0, Key_signature, 7, \"major\"\n1, 0, Sequencer_specific, 2, 0, 10\n" \
-    "1, 0, Unknown_meta_event, 96, 0\n1, 0, Unknown_meta_event, 8, 1, 100\n"
-#define FAR_LINE(time) "1, " time ", Program_c, 0, 0\n"
-
-/* 151 bytes of text for 39 of file, of which 25 times 39 are always enough. */
-static const struct written_case text_cases[] = {
-    {"the example of document 01", BYTES(SHORT), 151, NOFERKASH_OK, 0, BYTES(EXAMPLE_TEXT)},
-    {"the example in manner 0", BYTES(FULL), 151, NOFERKASH_OK, 0, BYTES(EXAMPLE_TEXT)},
-    {"room larger", BYTES(SHORT), 200, NOFERKASH_OK, 0, BYTES(EXAMPLE_TEXT)},
-    {"room that is always enough", BYTES(SHORT), 975, NOFERKASH_OK, 0, BYTES(EXAMPLE_TEXT)},
-    {"room one byte under that", BYTES(SHORT), 974, NOFERKASH_OK, 0, BYTES(EXAMPLE_TEXT)},
-    {"room one short", BYTES(SHORT), 150, NOFERKASH_ROOM_TOO_SMALL, 0, BYTES(EXAMPLE_TEXT)},
-    {"room of one byte", BYTES(SHORT), 1, NOFERKASH_ROOM_TOO_SMALL, 0, BYTES(EXAMPLE_TEXT)},
-    {"room of none", BYTES(SHORT), 0, NOFERKASH_ROOM_TOO_SMALL, 0, BYTES(EXAMPLE_TEXT)},
-    {"only End_track", BYTES(ONLY_END), 25 * 26, NOFERKASH_OK, 0, BYTES(TEXT(""))},
-    {"End_track at a Time of its own", BYTES(TRACK("\11", "\0\x90\x3C\x40\x83\x60\xFF\x2F\0")),
-     200, NOFERKASH_OK, 0,
-     BYTES(HEADER_LINE START_LINE
-           "1, 0, Note_on_c, 0, 60, 64\n1, 480, End_track\n0, 0, End_of_file\n")},
-    {"every kind", BYTES(TRACK("\x90", EVERY_KIND END)), 2000, NOFERKASH_OK, 0,
-     BYTES(TEXT(EVERY_KIND_LINES))},
-    {"bytes of a text that are escaped, and their neighbours",
-     BYTES(TRACK("\24", "\0\xFF\1\14\"\\\0\x1F\x20!~\x7F\x80\xA0\xA1\xFF" END)), 500,
-     NOFERKASH_OK, 0,
-     BYTES(TEXT("1, 0, Text_t, \"\"\"\\\\\\000\\037 !~\\177\\200\\240\xA1\xFF\"\n"))},
-    {"greatest Time", BYTES(TRACK("\x64", FOUR_FAR FOUR_FAR FOUR_FAR FOUR_FAR "\x0F\xFF\x2F\0")),
-     122 * 25, NOFERKASH_OK, 0,
-     BYTES(HEADER_LINE START_LINE FAR_LINE("268435455") FAR_LINE("536870910")
-           FAR_LINE("805306365") FAR_LINE("1073741820") FAR_LINE("1342177275")
-           FAR_LINE("1610612730") FAR_LINE("1879048185") FAR_LINE("2147483640")
-           FAR_LINE("2415919095") FAR_LINE("2684354550") FAR_LINE("2952790005")
-           FAR_LINE("3221225460") FAR_LINE("3489660915") FAR_LINE("3758096370")
-           FAR_LINE("4026531825") FAR_LINE("4294967280")
-           "1, 4294967295, End_track\n0, 0, End_of_file\n")},
-    {"two tracks, Times of their own",
-     BYTES(TWO_TRACKS CHUNK("\10", "\7\x90\x3C\x40" END)
-           CHUNK("\13", "\1\x91\x3C\0\2\x3C\0" "\3\xFF\x2F\0")), 300, NOFERKASH_OK, 0,
-     BYTES("0, 0, Header, 1, 2, 96\n1, 0, Start_track\n1, 7, Note_on_c, 0, 60, 64\n"
-           "1, 7, End_track\n2, 0, Start_track\n2, 1, Note_on_c, 1, 60, 0\n"
-           "2, 3, Note_on_c, 1, 60, 0\n2, 6, End_track\n0, 0, End_of_file\n")},
-
-    {"empty file", BYTES(""), 40, NOFERKASH_FILE_CUT_SHORT, 0, NOTHING},
-    {"film division", BYTES("MThd\0\0\0\6\0\0\0\1\xE7\x28" CHUNK("\4", END)), 1000,
-     NOFERKASH_BAD_HEADER, 12, NOTHING},
-    {"Tempo 0 after notes",
-     BYTES(TRACK("\23", "\0\x90\x3C\x40\0\x90\x3C\0\0\xFF\x51\3\0\0\0" END)), 60,
-     NOFERKASH_BAD_META_VALUE, 30, NOTHING},
-    {"Tempo 0 after notes, always enough room",
-     BYTES(TRACK("\23", "\0\x90\x3C\x40\0\x90\x3C\0\0\xFF\x51\3\0\0\0" END)), 25 * 41,
-     NOFERKASH_BAD_META_VALUE, 30, NOTHING},
-    {"byte after the last track", BYTES(FULL "\0"), 25 * 41, NOFERKASH_BYTES_AFTER_LAST_TRACK, 40,
-     NOTHING},
-    {"a fault, and no room", BYTES(FULL "\0"), 0, NOFERKASH_BYTES_AFTER_LAST_TRACK, 40, NOTHING}
-};
-
-/* A text, the manner and the room lent for it, and the answer due. */
-struct read_case {
-    const char *what;
-    const char *bytes;
-    size_t length;
-    uint32_t manner;
-    size_t room;
-    int number;
-    size_t place;
-    const char *due;
-    size_t due_length;
-};
-
-/* A text whose third line is this one; after Start_track, before END_LINES. */
-#define THIRD(line) BYTES(TEXT(line "\n"))
-#define GOOD_THIRD(line, length, body) \
-    THIRD(line), 1, 100, NOFERKASH_OK, 0, BYTES(TRACK(length, "\0" body END))
-#define BAD_THIRD(line, number) THIRD(line), 1, 100, number, 3, NOTHING
-#define BAD(text, number, line) BYTES(text), 1, 100, number, line, NOTHING
-
-static const struct read_case file_cases[] = {
-    {"the example of document 01", BYTES(EXAMPLE_TEXT), 1, 39, NOFERKASH_OK, 0, BYTES(SHORT)},
-    {"the example in manner 0", BYTES(EXAMPLE_TEXT), 0, 40, NOFERKASH_OK, 0, BYTES(FULL)},
-    {"room larger", BYTES(EXAMPLE_TEXT), 1, 64, NOFERKASH_OK, 0, BYTES(SHORT)},
-    {"room one short", BYTES(EXAMPLE_TEXT), 1, 38, NOFERKASH_ROOM_TOO_SMALL, 0, BYTES(SHORT)},
-    {"room one short, manner 0", BYTES(EXAMPLE_TEXT), 0, 39, NOFERKASH_ROOM_TOO_SMALL, 0,
-     BYTES(FULL)},
-    {"room of one byte", BYTES(EXAMPLE_TEXT), 0, 1, NOFERKASH_ROOM_TOO_SMALL, 0, BYTES(FULL)},
-    {"room of none", BYTES(EXAMPLE_TEXT), 1, 0, NOFERKASH_ROOM_TOO_SMALL, 0, BYTES(SHORT)},
-    {"every kind", BYTES(TEXT(EVERY_KIND_LINES)), 1, 200, NOFERKASH_OK, 0,
-     BYTES(TRACK("\x90", EVERY_KIND END))},
-    {"greatest step", BYTES(HEADER_LINE START_LINE "1, 268435455, End_track\n0, 0, End_of_file\n"),
-     1, 29, NOFERKASH_OK, 0, BYTES(TRACK("\7", "\xFF\xFF\xFF\x7F\xFF\x2F\0"))},
-    {"two tracks, the status in the next one",
-     BYTES("0, 0, Header, 1, 2, 96\n1, 0, Start_track\n1, 7, Note_on_c, 0, 60, 64\n"
-           "1, 7, End_track\n2, 0, Start_track\n2, 1, Note_on_c, 0, 60, 0\n"
-           "2, 3, Note_on_c, 0, 60, 0\n2, 6, End_track\n0, 0, End_of_file\n"), 1, 100,
-     NOFERKASH_OK, 0,
-     BYTES(TWO_TRACKS CHUNK("\10", "\7\x90\x3C\x40" END)
-           CHUNK("\13", "\1\x90\x3C\0\2\x3C\0" "\3\xFF\x2F\0"))},
-    {"loosely spelled",
-     BYTES("# one\r\n\n\t0 ,-0,HEADER,00,0000000001, 96\n; two\n01,0, start_TRACK\r\n"
-           "1,0,title_t,\"\\101\"\"\" \n \t\n1,0,note_on_c,0,060,64\r\n1,96,NOTE_ON_C,0,60,0\n"
-           "1,96,End_Track\n0,0,End_Of_File\r"), 1, 39, NOFERKASH_OK, 0, BYTES(SHORT)},
-    {"\\377 and \\000",
-     GOOD_THIRD("1, 0, Text_t, \"\\377\\000\"", "\12", "\xFF\1\2\xFF\0")},
-    {"key -7", GOOD_THIRD("1, 0, Key_signature, -7, \"mino\\162\"", "\12", "\xFF\x59\2\xF9\1")},
-    {"ten digits", GOOD_THIRD("1, 0, Tempo, 0016777215", "\13", "\xFF\x51\3\xFF\xFF\xFF")},
-
-    {"\\400", BAD_THIRD("1, 0, Text_t, \"\\400\"", NOFERKASH_BAD_FIELD)},
-    {"eleven digits", BAD_THIRD("1, 0, Tempo, 00000000001", NOFERKASH_BAD_FIELD)},
-    {"4294967296", BAD_THIRD("1, 0, Tempo, 4294967296", NOFERKASH_BAD_FIELD)},
-    {"a comma too many", BAD_THIRD("1, 0, Tempo, 1,", NOFERKASH_BAD_FIELD)},
-    {"a quote unended", BAD_THIRD("1, 0, Text_t, \"a", NOFERKASH_BAD_FIELD)},
-    {"CR in quotes", BAD_THIRD("1, 0, Text_t, \"a\rb\"", NOFERKASH_BAD_FIELD)},
-    {"a letter too many", BAD_THIRD("1, 0, Tempos, 1", NOFERKASH_UNKNOWN_RECORD)},
-    {"a quoted name", BAD_THIRD("1, 0, \"Tempo\", 1", NOFERKASH_UNKNOWN_RECORD)},
-    {"a field too few", BAD_THIRD("1, 0, Note_on_c, 0, 60", NOFERKASH_WRONG_FIELD_COUNT)},
-    {"two fields", BAD_THIRD("1, 0", NOFERKASH_WRONG_FIELD_COUNT)},
-    {"Length too great", BAD_THIRD("1, 0, System_exclusive, 2, 1", NOFERKASH_WRONG_FIELD_COUNT)},
-    {"Length -1", BAD_THIRD("1, 0, System_exclusive, -1", NOFERKASH_FIELD_OUT_OF_RANGE)},
-    {"Tempo 0", BAD_THIRD("1, 0, Tempo, 0", NOFERKASH_FIELD_OUT_OF_RANGE)},
-    {"key 8", BAD_THIRD("1, 0, Key_signature, 8, \"major\"", NOFERKASH_FIELD_OUT_OF_RANGE)},
-    {"Major", BAD_THIRD("1, 0, Key_signature, 0, \"Major\"", NOFERKASH_FIELD_OUT_OF_RANGE)},
-    {"Unknown_meta_event 47",
-     BAD_THIRD("1, 0, Unknown_meta_event, 47, 0", NOFERKASH_FIELD_OUT_OF_RANGE)},
-    {"Unknown_meta_event 128",
-     BAD_THIRD("1, 0, Unknown_meta_event, 128, 0", NOFERKASH_FIELD_OUT_OF_RANGE)},
-    {"Track 65536", BAD_THIRD("65536, 0, Tempo, 1", NOFERKASH_FIELD_OUT_OF_RANGE)},
-    {"format 0 with 2 tracks", BAD("0, 0, Header, 0, 2, 96\n", NOFERKASH_FIELD_OUT_OF_RANGE, 1)},
-    {"65536 tracks", BAD("0, 0, Header, 1, 65536, 96\n", NOFERKASH_FIELD_OUT_OF_RANGE, 1)},
-    {"wrong Track", BAD_THIRD("2, 0, Tempo, 1", NOFERKASH_RECORD_OUT_OF_ORDER)},
-    {"Time falls",
-     BAD(HEADER_LINE START_LINE "1, 5, Tempo, 1\n1, 4, End_track\n",
-         NOFERKASH_RECORD_OUT_OF_ORDER, 4)},
-    {"fewer tracks than counted",
-     BAD("0, 0, Header, 1, 2, 96\n" START_LINE END_LINES, NOFERKASH_RECORD_OUT_OF_ORDER, 4)},
-    {"Header at Time 1", BAD("0, 1, Header, 0, 1, 96\n", NOFERKASH_RECORD_OUT_OF_ORDER, 1)},
-    {"a record after End_of_file",
-     BAD(TEXT("") "0, 0, End_of_file\n", NOFERKASH_RECORD_OUT_OF_ORDER, 5)},
-    {"a comment, then a fault after End_of_file",
-     BAD(TEXT("") "#\n+", NOFERKASH_BAD_FIELD, 6)},
-    {"step too great", BAD_THIRD("1, 268435456, Tempo, 1", NOFERKASH_STEP_TOO_GREAT)},
-    {"empty text", BAD("", NOFERKASH_TEXT_CUT_SHORT, 1)},
-    {"CR alone", BAD("\r", NOFERKASH_TEXT_CUT_SHORT, 2)},
-    {"no End_of_file", BAD(HEADER_LINE START_LINE "1, 0, End_track", NOFERKASH_TEXT_CUT_SHORT, 4)},
-    {"manner 2", BYTES(EXAMPLE_TEXT), 2, 100, NOFERKASH_BAD_MANNER, 0, NOTHING},
-    {"manner 255, a fault, no room", BYTES("+"), 255, 0, NOFERKASH_BAD_MANNER, 0, NOTHING},
-    {"manner 256", BYTES(EXAMPLE_TEXT), 256, 100, NOFERKASH_BAD_MANNER, 0, NOTHING},
-    {"manner 2^32 - 1", BYTES(EXAMPLE_TEXT), 0xFFFFFFFF, 100, NOFERKASH_BAD_MANNER, 0, NOTHING},
-    {"a fault, and no room", BYTES(TEXT("") "+"), 0, 0, NOFERKASH_BAD_FIELD, 5, NOTHING}
-};
+#include "cases.h"
 
 static unsigned count, failed;
 
-static void try_case(const char *what, const uint8_t *file, size_t length, int number, size_t place)
-{
-    uint64_t due = ((uint64_t)number << 56) + ((uint64_t)place << 28);
-    uint64_t answer = noferkash_check(file, length);
-    int good = answer == due && NOFERKASH_NUMBER(answer) == number &&
-               NOFERKASH_PLACE(answer) == place && NOFERKASH_LENGTH(answer) == 0;
+struct due {
+    int number;
+    size_t place;
+    size_t length;
+};
 
+/* Whether it is the answer due, as a whole and as the macros take it apart. */
+static int is_due(uint64_t answer, struct due due)
+{
+    return answer == ((uint64_t)due.number << 56) + ((uint64_t)due.place << 28) + due.length &&
+           NOFERKASH_NUMBER(answer) == due.number && NOFERKASH_PLACE(answer) == due.place &&
+           NOFERKASH_LENGTH(answer) == due.length;
+}
+
+static void report(const char *operation, size_t room, const char *what, uint64_t answer,
+                   struct due due, int good)
+{
     count++;
     failed += !good;
-    printf("%s: %s: %d at %lu, length %lu\n", good ? "ok" : "FAILED", what,
-           NOFERKASH_NUMBER(answer), (unsigned long)NOFERKASH_PLACE(answer),
-           (unsigned long)NOFERKASH_LENGTH(answer));
+    printf("%s: %s, room %lu: %s: %d at %lu, length %lu\n", good ? "ok" : "FAILED", operation,
+           (unsigned long)room, what, NOFERKASH_NUMBER(answer),
+           (unsigned long)NOFERKASH_PLACE(answer), (unsigned long)NOFERKASH_LENGTH(answer));
     if (!good)
-        printf("    due: %d at %lu, length 0\n", number, (unsigned long)place);
+        printf("    due: %d at %lu, length %lu\n", due.number, (unsigned long)due.place,
+               (unsigned long)due.length);
+}
+
+static void try_case(const char *what, const uint8_t *file, size_t length, int number, size_t place)
+{
+    struct due due = {number, place, 0};
+    uint64_t answer = noferkash_check(file, length);
+
+    report("check", 0, what, answer, due, is_due(answer, due));
 }
 
 #define GUARD 0xA5
@@ -349,6 +78,7 @@ static void try_written(const struct operation *operation, const char *what, con
                         size_t due_length)
 {
     static uint8_t lent[FENCE + TEXT_LIMIT + FENCE], given[READ_LIMIT + 1];
+    struct due answer_due = {number, place, due_length};
     uint8_t *out = lent + FENCE;
     size_t written = number == NOFERKASH_OK ? due_length : 0;
     uint64_t answer;
@@ -357,20 +87,10 @@ static void try_written(const struct operation *operation, const char *what, con
     memset(lent, GUARD, FENCE + room + FENCE);
     memcpy(given, file, length);
     answer = operation->run(given, length, out, room);
-    good = answer == ((uint64_t)number << 56) + ((uint64_t)place << 28) + due_length &&
-           NOFERKASH_NUMBER(answer) == number && NOFERKASH_PLACE(answer) == place &&
-           NOFERKASH_LENGTH(answer) == due_length && memcmp(given, file, length) == 0 &&
+    good = is_due(answer, answer_due) && memcmp(given, file, length) == 0 &&
            memcmp(out, due, written) == 0 && untouched(lent, out) &&
            untouched(out + written, out + room + FENCE);
-
-    count++;
-    failed += !good;
-    printf("%s: %s, room %lu: %s: %d at %lu, length %lu\n", good ? "ok" : "FAILED",
-           operation->name, (unsigned long)room, what, NOFERKASH_NUMBER(answer),
-           (unsigned long)NOFERKASH_PLACE(answer), (unsigned long)NOFERKASH_LENGTH(answer));
-    if (!good)
-        printf("    due: %d at %lu, length %lu\n", number, (unsigned long)place,
-               (unsigned long)due_length);
+    report(operation->name, room, what, answer, answer_due, good);
 }
 
 /* A good file of `length` bytes: one system exclusive event fills it. */

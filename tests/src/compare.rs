@@ -8,13 +8,16 @@ use std::ops::Range;
 use crate::generate::{manner, room, Rng};
 use crate::refusal::Answer;
 
+pub type Second = fn(input: &[u8], manner: u32, room: &mut [u8]) -> Answer;
+pub type Archive = fn(input: &mut [u8], manner: u32, room: &mut [u8]) -> u64;
+
 /// An operation as the two programs have it; those that take no manner or no
 /// room pass them over.
 pub struct Operation {
     pub name: &'static str,
-    pub second: fn(input: &[u8], manner: u32, room: &mut [u8]) -> Answer,
+    pub second: Second,
     /// Answers packed, so that a place or length out of bounds shows too.
-    pub archive: fn(input: &mut [u8], manner: u32, room: &mut [u8]) -> u64,
+    pub archive: Archive,
     /// So many bytes of room for each byte of input are always enough, and a
     /// program may go another way there; 0 if no such number is known.
     pub enough: usize,
@@ -78,6 +81,11 @@ pub struct Difference {
 }
 
 impl Operation {
+    /// One whose manner does not count, and no room is known to be always enough.
+    pub const fn new(name: &'static str, second: Second, archive: Archive) -> Operation {
+        Operation { name, second, archive, enough: 0, manners: false }
+    }
+
     /// Runs both on the same input; `seed` chooses manner and room.
     pub fn compare(&self, seed: u64, input: &[u8]) -> Result<Met, Difference> {
         // Another stream than the input of the same seed.

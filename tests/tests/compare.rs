@@ -1,18 +1,14 @@
 //! The comparing itself: that it sees each fault which it is there for.
 
-use second::compare::{Difference, Met, Operation, Room};
+use second::compare::{Archive, Difference, Met, Operation, Room};
 use second::generate::{file_case, text_case};
 use second::operations::{file_to_text, text_to_file, tidy};
 
-const GOOD: Operation = Operation {
-    name: "tidy",
-    second: |file, _, room| tidy(file, room),
-    archive: |file, _, room| tidy(file, room).packed(),
-    enough: 0,
-    manners: false,
-};
-
-type Archive = fn(&mut [u8], u32, &mut [u8]) -> u64;
+const GOOD: Operation = Operation::new(
+    "tidy",
+    |file, _, room| tidy(file, room),
+    |file, _, room| tidy(file, room).packed(),
+);
 
 /// What is said of each difference over many files.
 fn said(archive: Archive) -> Vec<&'static str> {
@@ -74,13 +70,9 @@ fn what_is_written_counts() {
 
 #[test]
 fn manner_and_room_reach_both() {
-    let operation = Operation {
-        name: "text_to_file",
-        second: text_to_file,
-        archive: |text, manner, room| text_to_file(text, manner, room).packed(),
-        enough: 0,
-        manners: true,
-    };
+    let archive: Archive = |text, manner, room| text_to_file(text, manner, room).packed();
+    let operation =
+        Operation { manners: true, ..Operation::new("text_to_file", text_to_file, archive) };
     let met: Vec<Met> =
         (0..500).map(|seed| operation.compare(seed, &text_case(seed)).unwrap()).collect();
     for number in [0, 14, 30] {
@@ -96,11 +88,12 @@ fn manner_and_room_reach_both() {
 #[test]
 fn rooms_that_are_always_enough_are_met() {
     const TEXT: Operation = Operation {
-        name: "file_to_text",
-        second: |file, _, room| file_to_text(file, room),
-        archive: |file, _, room| file_to_text(file, room).packed(),
         enough: 25,
-        manners: false,
+        ..Operation::new(
+            "file_to_text",
+            |file, _, room| file_to_text(file, room),
+            |file, _, room| file_to_text(file, room).packed(),
+        )
     };
     let met: Vec<Met> =
         (0..500).map(|seed| TEXT.compare(seed, &file_case(seed)).unwrap()).collect();

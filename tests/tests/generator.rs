@@ -3,11 +3,12 @@
 mod common;
 
 use std::collections::{BTreeMap, BTreeSet};
+use std::ops::RangeInclusive;
 
 use common::to_text;
 use second::generate::{
-    aims, benchmark_file, file_case, limit_cases, manner, piece, room, text_case, text_limit_cases,
-    Rng,
+    aims, benchmark_file, file_case, limit_cases, manner, piece, room, small_benchmark_file,
+    text_case, text_limit_cases, Rng,
 };
 use second::number::read_variable;
 use second::operations::{check, file_to_text, text_to_file};
@@ -152,11 +153,16 @@ fn fnv(bytes: &[u8]) -> u64 {
 }
 
 #[test]
-fn the_benchmark_file_is_as_asked() {
-    let file = benchmark_file();
+fn the_benchmark_files_are_as_asked() {
+    the_benchmark_file_is_as_asked(benchmark_file, 1_048_000..=1_048_576);
+    the_benchmark_file_is_as_asked(small_benchmark_file, 65_500..=65_536);
+}
+
+fn the_benchmark_file_is_as_asked(make: fn() -> Vec<u8>, sizes: RangeInclusive<usize>) {
+    let file = make();
     println!("benchmark: {} bytes, FNV {:016x}", file.len(), fnv(&file));
-    assert!((1_048_000..=1_048_576).contains(&file.len()), "{} bytes", file.len());
-    assert!(file == benchmark_file(), "not repeatable");
+    assert!(sizes.contains(&file.len()), "{} bytes", file.len());
+    assert!(file == make(), "not repeatable");
     let piece = read_file(&file).unwrap();
     let kinds: BTreeSet<String> = events(&piece).map(|event| name_of(&event.kind)).collect();
     assert_eq!(kinds.len(), 19 + 7, "{kinds:?}");
@@ -186,10 +192,13 @@ fn seeds_give_what_they_gave() {
         .enumerate()
         .flat_map(|(seed, aim)| fnv(&aim.text(&mut Rng::new(seed as u64)).text).to_be_bytes())
         .collect();
-    let hashes = [hash(file_case), hash(text_case), fnv(&benchmark_file()), fnv(&aimed)];
+    let benchmarks = [fnv(&benchmark_file()), fnv(&small_benchmark_file())];
+    let hashes = [hash(file_case), hash(text_case), benchmarks[0], benchmarks[1], fnv(&aimed)];
     println!("{hashes:016x?}");
     assert_eq!(hashes, PINNED, "pin anew if the generator was changed on purpose");
 }
 
-const PINNED: [u64; 4] =
-    [0xf3c2_ee0c_b167_5a69, 0x255e_fdf4_429a_07b3, 0x80ca_d4ff_450a_95d7, 0x0eef_715d_ac33_2038];
+const PINNED: [u64; 5] = [
+    0xf3c2_ee0c_b167_5a69, 0x255e_fdf4_429a_07b3, 0x80ca_d4ff_450a_95d7, 0x8e2b_f0b6_0c94_7c34,
+    0x0eef_715d_ac33_2038,
+];

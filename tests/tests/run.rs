@@ -1,20 +1,17 @@
 //! A whole run: that it is good when the programs agree and all was met, and that it
 //! is not when a fault is planted in one of them, or in both, or something was not met.
 
-use second::compare::Operation;
+use second::compare::{Archive, Operation};
 use second::generate::{aims, text_case, text_limit_cases, LimitText};
 use second::operations::text_to_file;
 use second::refusal::Answer;
 use second::run::{Run, GENERATED};
 
-type Archive = fn(&mut [u8], u32, &mut [u8]) -> u64;
-
 const GOOD: Operation = Operation {
-    name: "text_to_file",
-    second: text_to_file,
-    archive: |text, manner, room| text_to_file(text, manner, room).packed(),
-    enough: 0,
     manners: true,
+    ..Operation::new("text_to_file", text_to_file, |text, manner, room| {
+        text_to_file(text, manner, room).packed()
+    })
 };
 
 /// Every number due of text_to_file.

@@ -1,186 +1,230 @@
-//! bench: the proved archive's times beside those of others, on the benchmark
-//! file, medians of ten in one run, buffers warm. The others are the second
-//! program, the converter made for speed (`fast_text`) and, where they are installed,
-//! midicsv and csvmidi.
+//! bench: one table of times, the proved archive's beside those of the second
+//! program, of the converter made for speed (`fast_text`) and, where they are
+//! installed, of midicsv and csvmidi. Medians of ten in one run.
 
 use std::env;
 use std::fs;
 use std::hint::black_box;
 use std::path::{Path, PathBuf};
 use std::process::{self, Command};
+use std::thread;
 use std::time::{Duration, Instant};
 
 use second::archive;
 use second::fast_text;
-use second::generate::benchmark_file;
+use second::generate::{benchmark_file, small_benchmark_file};
 use second::operations;
 use second::refusal::Answer;
 
 const ROUNDS: usize = 10;
-/// What rooms hold before a call: their pages are there, and what is not written
-/// shows.
+/// Calls on a small input that are timed together: they take about as long as one on
+/// the large input, so the clock and the machine disturb both alike.
+const SMALL_CALLS: u32 = 16;
+/// What rooms hold before they are timed: their pages are there, and what is not
+/// written shows.
 const FILL: u8 = 0xA5;
 
 fn main() {
-    let mut bench = Bench::new();
-    // Interleaved, so that a busy moment of the machine meets all.
-    for _ in 0..ROUNDS {
-        bench.check();
-        bench.tidy();
-        bench.text();
-        bench.back();
-        bench.commands();
+    let before = load();
+    let (large, small) = (Inputs::of(benchmark_file()), Inputs::of(small_benchmark_file()));
+    let mut rows: Vec<Row> = TASKS.iter().map(|task| Row::of(task, &large, &small)).collect();
+    // Nothing is timed before all have been seen to make the same.
+    for contender in rows.iter_mut().flat_map(Row::contenders) {
+        contender.timed();
     }
-    bench.report();
+    for _ in 0..ROUNDS {
+        // Interleaved, so that a busy moment of the machine meets all.
+        for contender in rows.iter_mut().flat_map(Row::contenders) {
+            let time = contender.timed();
+            contender.times.push(time);
+        }
+    }
+    print_table(&rows);
+    print_notes(&large, &small);
+    println!("Load {before} before, {} after; {}.", load(), machine());
+    for row in &rows {
+        match row.task.outside {
+            Some(program) if row.outside.is_none() => {
+                println!("{program} is not installed: {} not timed beside it.", row.task.name);
+            }
+            _ => {}
+        }
+    }
 }
 
-/// Files, rooms, and the times of each contender.
-struct Bench {
+/// A file in manner 1, so that it comes back from tidying and from its text.
+struct Inputs {
     file: Vec<u8>,
     text: Vec<u8>,
-    /// In so much room any file's text fits, and ours measures nothing first.
-    room: Vec<u8>,
-    fast_room: Vec<u8>,
-    midicsv: Option<Outside>,
-    csvmidi: Option<Outside>,
-    check: [Vec<Duration>; 2],
-    tidy: [Vec<Duration>; 2],
-    /// Ours in room that is always enough and in exact room; then the others.
-    enough: Vec<Duration>,
-    exact: Vec<Duration>,
-    second: Vec<Duration>,
-    fast: Vec<Duration>,
-    by_midicsv: Vec<Duration>,
-    /// The text back to the file, in exact room: ours, the second program's.
-    back: [Vec<Duration>; 2],
-    by_csvmidi: Vec<Duration>,
 }
 
-impl Bench {
-    fn new() -> Bench {
-        let file = benchmark_file();
-        let mut room = vec![FILL; 25 * file.len()];
-        let length = operations::file_to_text(&file, &mut room).length;
-        let text = room[..length].to_vec();
-        let mut fast_room = Vec::new();
-        fast_text::file_to_text(&file, &mut fast_room).expect("the benchmark file is good");
-        let midicsv = Outside::find("midicsv", &file, &text);
-        let csvmidi = Outside::find("csvmidi", &text, &file);
-        Bench {
-            file,
-            text,
-            room,
-            fast_room,
-            midicsv,
-            csvmidi,
-            check: Default::default(),
-            tidy: Default::default(),
-            enough: Vec::new(),
-            exact: Vec::new(),
-            second: Vec::new(),
-            fast: Vec::new(),
-            by_midicsv: Vec::new(),
-            back: Default::default(),
-            by_csvmidi: Vec::new(),
-        }
+impl Inputs {
+    fn of(file: Vec<u8>) -> Inputs {
+        let mut text = vec![FILL; 25 * file.len()];
+        let length = operations::file_to_text(&file, &mut text).length;
+        text.truncate(length);
+        Inputs { file, text }
     }
+}
 
-    fn check(&mut self) {
-        let Bench { file, check: [ours, second], .. } = self;
-        ours.push(timed(0, || archive::check(black_box(file))));
-        second.push(timed(0, || operations::check(black_box(file)).packed()));
-    }
+/// What a contender makes of an input in its room; the packed answer.
+type Work = fn(input: &mut [u8], room: &mut Vec<u8>) -> u64;
 
-    /// The file is tidy, so it is written as it was.
-    fn tidy(&mut self) {
-        let Bench { file, room, tidy: [ours, second], .. } = self;
-        let length = file.len();
-        let room = &mut room[..length];
-        room.fill(FILL);
-        ours.push(timed(length, || archive::tidy(black_box(file), black_box(room))));
-        assert!(room == file, "the benchmark file is tidy");
-        room.fill(FILL);
-        second.push(timed(length, || operations::tidy(black_box(file), black_box(room)).packed()));
-        assert!(room == file, "the benchmark file is tidy");
-    }
+/// A row of the table: an operation, and who does it.
+struct Task {
+    name: &'static str,
+    input: fn(&Inputs) -> &[u8],
+    due: fn(&Inputs) -> &[u8],
+    room: fn(&Inputs) -> usize,
+    ours: Work,
+    second: Work,
+    fast: Option<Work>,
+    /// The program that does it as a whole process.
+    outside: Option<&'static str>,
+}
 
-    fn text(&mut self) {
-        let Bench { file, text, room, fast_room, .. } = self;
-        let (length, enough) = (text.len(), room.len());
-        let mut run = |times: &mut Vec<Duration>, size: usize, ours: bool| {
-            let room = &mut room[..size];
-            room[..length].fill(FILL);
-            times.push(timed(length, || match ours {
-                true => archive::file_to_text(black_box(file), black_box(room)),
-                false => operations::file_to_text(black_box(file), black_box(room)).packed(),
-            }));
-            assert!(room[..length] == *text, "the text is the same");
+const TASKS: [Task; 5] = [
+    // In so much room any file's text fits, and ours measures nothing first.
+    Task { name: "file to text, room 25n", room: |inputs| 25 * inputs.file.len(), ..TO_TEXT },
+    Task { name: "file to text, exact room", ..TO_TEXT },
+    Task {
+        name: "text to file, manner 1",
+        input: |inputs| &inputs.text,
+        ours: |text, room| archive::text_to_file(text, 1, room),
+        second: |text, room| operations::text_to_file(text, 1, room).packed(),
+        outside: Some("csvmidi"),
+        ..TIDY
+    },
+    Task {
+        name: "check",
+        due: |_| &[],
+        room: |_| 0,
+        ours: |file, _| archive::check(file),
+        second: |file, _| operations::check(file).packed(),
+        ..TIDY
+    },
+    TIDY,
+];
+
+const TO_TEXT: Task = Task {
+    name: "file to text",
+    input: |inputs| &inputs.file,
+    due: |inputs| &inputs.text,
+    room: |inputs| inputs.text.len(),
+    ours: |file, room| archive::file_to_text(file, room),
+    second: |file, room| operations::file_to_text(file, room).packed(),
+    fast: Some(|file, room| {
+        let made = fast_text::file_to_text(file, room);
+        made.map_or_else(Answer::from, |()| Answer::success(room.len())).packed()
+    }),
+    outside: Some("midicsv"),
+};
+
+const TIDY: Task = Task {
+    name: "tidy",
+    input: |inputs| &inputs.file,
+    due: |inputs| &inputs.file,
+    room: |inputs| inputs.file.len(),
+    ours: |file, room| archive::tidy(file, room),
+    second: |file, room| operations::tidy(file, room).packed(),
+    fast: None,
+    outside: None,
+};
+
+/// The contenders at one task.
+struct Row {
+    task: &'static Task,
+    bytes: usize,
+    ours: Contender,
+    small: Contender,
+    second: Contender,
+    fast: Option<Contender>,
+    outside: Option<Contender>,
+}
+
+impl Row {
+    fn of(task: &'static Task, large: &Inputs, small: &Inputs) -> Row {
+        let contender = |work: Work, inputs| Contender {
+            work: Box::new(work),
+            input: (task.input)(inputs).to_vec(),
+            room: vec![FILL; (task.room)(inputs)],
+            due: (task.due)(inputs).to_vec(),
+            calls: 1,
+            times: Vec::new(),
         };
-        run(&mut self.enough, enough, true);
-        run(&mut self.exact, length, true);
-        run(&mut self.second, length, false);
-        fast_room.fill(FILL);
-        self.fast.push(timed(length, || {
-            let made = fast_text::file_to_text(black_box(file), black_box(fast_room));
-            made.map_or_else(Answer::from, |()| Answer::success(fast_room.len())).packed()
-        }));
-        assert!(fast_room == text, "the text is the same");
-    }
-
-    /// The file is tidy, so manner 1 gives it again.
-    fn back(&mut self) {
-        let Bench { file, text, room, back: [ours, second], .. } = self;
-        let length = file.len();
-        let room = &mut room[..length];
-        room.fill(FILL);
-        ours.push(timed(length, || archive::text_to_file(black_box(text), 1, black_box(room))));
-        assert!(room == file, "the file is the same");
-        room.fill(FILL);
-        second.push(timed(length, || {
-            operations::text_to_file(black_box(text), 1, black_box(room)).packed()
-        }));
-        assert!(room == file, "the file is the same");
-    }
-
-    fn commands(&mut self) {
-        if let Some(midicsv) = &self.midicsv {
-            self.by_midicsv.push(timed(0, || midicsv.run(Path::new("/dev/null"))));
-        }
-        if let Some(csvmidi) = &self.csvmidi {
-            self.by_csvmidi.push(timed(0, || csvmidi.run(Path::new("/dev/null"))));
+        let (input, due) = ((task.input)(large), (task.due)(large));
+        let outside = task.outside.and_then(|program| Outside::find(program, input, due));
+        Row {
+            task,
+            bytes: input.len(),
+            ours: contender(task.ours, large),
+            small: Contender { calls: SMALL_CALLS, ..contender(task.ours, small) },
+            second: contender(task.second, large),
+            fast: task.fast.map(|work| contender(work, large)),
+            outside: outside.map(Contender::process),
         }
     }
 
-    fn report(self) {
-        let bytes = self.file.len();
-        println!("{bytes} bytes, text of {}; medians of {ROUNDS}, ms", self.text.len());
-        println!("{:<38}{:>8}{:>8}{:>8}{:>16}", "", "ours", "other", "ratio", "ns a byte");
-        let [ours, second] = self.check.map(median);
-        report("check / second program", ours, second, bytes);
-        let [ours, second] = self.tidy.map(median);
-        report("tidy / second program", ours, second, bytes);
-        let mut others =
-            vec![("second program", median(self.second)), ("fast Rust", median(self.fast))];
-        if self.midicsv.is_some() {
-            others.push(("midicsv, a process", median(self.by_midicsv)));
+    fn contenders(&mut self) -> impl Iterator<Item = &mut Contender> {
+        let Row { ours, small, second, fast, outside, .. } = self;
+        [ours, small, second].into_iter().chain(fast).chain(outside)
+    }
+
+    fn cells(&self) -> Vec<String> {
+        let ours = self.ours.median();
+        let mut cells = vec![self.task.name.to_owned(), self.bytes.to_string(), milliseconds(ours)];
+        for other in [Some(&self.second), self.fast.as_ref(), self.outside.as_ref()] {
+            let time = other.map(Contender::median);
+            cells.push(time.map_or_else(String::new, milliseconds));
+            cells.push(time.map_or_else(String::new, |time| ratio(ours, time)));
         }
-        for (room, ours) in [("room 25n", median(self.enough)), ("exact room", median(self.exact))]
-        {
-            for (other, time) in &others {
-                report(&format!("text, {room} / {other}"), ours, *time, bytes);
-            }
+        cells.push(ratio(ours, self.small.median()));
+        cells
+    }
+}
+
+struct Contender {
+    work: Box<dyn Fn(&mut [u8], &mut Vec<u8>) -> u64>,
+    input: Vec<u8>,
+    room: Vec<u8>,
+    due: Vec<u8>,
+    /// So many calls are timed together, and the mean is taken.
+    calls: u32,
+    times: Vec<Duration>,
+}
+
+impl Contender {
+    /// What it makes was held against what is due when it was found.
+    fn process(outside: Outside) -> Contender {
+        Contender {
+            work: Box::new(move |_, _| outside.run(Path::new("/dev/null"))),
+            input: Vec::new(),
+            room: Vec::new(),
+            due: Vec::new(),
+            calls: 1,
+            times: Vec::new(),
         }
-        let [ours, second] = self.back.map(median);
-        report("file, exact room / second program", ours, second, bytes);
-        if self.csvmidi.is_some() {
-            let time = median(self.by_csvmidi);
-            report("file, exact room / csvmidi, a process", ours, time, bytes);
+    }
+
+    /// The time of one call, which must make what is due.
+    fn timed(&mut self) -> Duration {
+        let mut answer = 0;
+        self.room.fill(FILL);
+        let started = Instant::now();
+        for _ in 0..self.calls {
+            answer = (self.work)(black_box(&mut self.input), black_box(&mut self.room));
+            black_box(answer);
         }
-        for (name, found) in [("midicsv", self.midicsv), ("csvmidi", self.csvmidi)] {
-            if found.is_none() {
-                println!("{name} is not installed");
-            }
-        }
+        let time = started.elapsed() / self.calls;
+        assert_eq!(Answer::unpacked(answer), Answer::success(self.due.len()));
+        assert!(self.room.starts_with(&self.due), "all make the same");
+        time
+    }
+
+    fn median(&self) -> Duration {
+        let mut times = self.times.clone();
+        times.sort();
+        (times[ROUNDS / 2 - 1] + times[ROUNDS / 2]) / 2
     }
 }
 
@@ -193,7 +237,10 @@ struct Outside {
 impl Outside {
     /// If it is installed; what it makes of the input must be the same.
     fn find(program: &'static str, input: &[u8], due: &[u8]) -> Option<Outside> {
-        let folder = env::temp_dir().join(format!("noferkash-bench-{}-{program}", process::id()));
+        // Two rows may ask for the same program.
+        let folder = (0..)
+            .map(|i| env::temp_dir().join(format!("noferkash-bench-{}-{i}", process::id())))
+            .find(|folder| !folder.exists())?;
         fs::create_dir(&folder).expect("a new folder for the program's files");
         let outside = Outside { program, folder };
         fs::write(outside.input(), input).expect("the program's input written");
@@ -222,28 +269,58 @@ impl Drop for Outside {
     }
 }
 
-/// The time of a run, which must succeed with this length.
-fn timed(length: usize, run: impl FnOnce() -> u64) -> Duration {
-    let started = Instant::now();
-    let answer = black_box(run());
-    let time = started.elapsed();
-    assert_eq!(Answer::unpacked(answer), Answer::success(length));
-    time
+/// In Markdown, with cells of one width, so that it reads well as it stands.
+fn print_table(rows: &[Row]) {
+    let head = [
+        "", "bytes", "ours", "second", "ratio", "fast_text", "ratio", "midicsv", "ratio", "growth",
+    ];
+    let mut lines = vec![head.map(str::to_owned).to_vec()];
+    lines.extend(rows.iter().map(Row::cells));
+    let width = |column: usize| lines.iter().map(|cells| cells[column].len()).max().unwrap_or(0);
+    let widths: Vec<usize> = (0..head.len()).map(width).collect();
+    for (index, cells) in lines.iter().enumerate() {
+        let name = format!("| {:<1$} |", cells[0], widths[0]);
+        let numbers = cells.iter().zip(&widths).skip(1);
+        let numbers: String = numbers.map(|(cell, width)| format!(" {cell:>width$} |")).collect();
+        println!("{name}{numbers}");
+        if index == 0 {
+            let dashes = widths.iter().skip(1).map(|width| format!("{}:|", "-".repeat(width + 1)));
+            println!("|{}|{}", "-".repeat(widths[0] + 2), dashes.collect::<String>());
+        }
+    }
 }
 
-fn median(mut times: Vec<Duration>) -> Duration {
-    times.sort();
-    (times[ROUNDS / 2 - 1] + times[ROUNDS / 2]) / 2
-}
-
-fn report(name: &str, ours: Duration, other: Duration, bytes: usize) {
-    let per_byte = |time: Duration| time.as_nanos() as f64 / bytes as f64;
+fn print_notes(large: &Inputs, small: &Inputs) {
+    let times = |of: fn(&Inputs) -> &[u8]| of(large).len() as f64 / of(small).len() as f64;
     println!(
-        "{name:<38}{:>8.2}{:>8.2}{:>8.2}{:>8.2}{:>8.2}",
-        ours.as_secs_f64() * 1e3,
-        other.as_secs_f64() * 1e3,
-        ours.as_secs_f64() / other.as_secs_f64(),
-        per_byte(ours),
-        per_byte(other),
+        "\n\
+         Milliseconds, medians of {ROUNDS} by the wall clock. Ratio: ours by the other's. midicsv\n\
+         (csvmidi in the row of text to file) is a whole process. Growth: ours by ours on a file\n\
+         of {} bytes, {:.2} times smaller, or on its text of {} bytes, {:.2} times smaller.",
+        small.file.len(),
+        times(|inputs| &inputs.file),
+        small.text.len(),
+        times(|inputs| &inputs.text),
     );
+}
+
+fn milliseconds(time: Duration) -> String {
+    format!("{:.2}", time.as_secs_f64() * 1e3)
+}
+
+fn ratio(ours: Duration, other: Duration) -> String {
+    format!("{:.2}", ours.as_secs_f64() / other.as_secs_f64())
+}
+
+/// The load of the last minute, where the system tells it.
+fn load() -> String {
+    let loads = fs::read_to_string("/proc/loadavg").unwrap_or_default();
+    loads.split(' ').next().filter(|load| !load.is_empty()).unwrap_or("unknown").to_owned()
+}
+
+fn machine() -> String {
+    let told = fs::read_to_string("/proc/cpuinfo").unwrap_or_default();
+    let model = told.lines().find_map(|line| line.strip_prefix("model name")?.split(": ").nth(1));
+    let cores = thread::available_parallelism().map_or(0, usize::from);
+    format!("{}, {cores} cores", model.unwrap_or("unknown processor"))
 }

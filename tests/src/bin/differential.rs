@@ -23,36 +23,30 @@ use second::run::{Run, GENERATED};
 const USAGE: &str = "usage: differential [CASES [FIRST_SEED]]";
 const CASES: u64 = 500_000;
 
-const CHECK: Operation = Operation {
-    name: "check",
-    second: |file, _, _| operations::check(file),
-    archive: |file, _, _| archive::check(file),
-    enough: 0,
-    manners: false,
-};
+const CHECK: Operation = Operation::new(
+    "check",
+    |file, _, _| operations::check(file),
+    |file, _, _| archive::check(file),
+);
 
-const TIDY: Operation = Operation {
-    name: "tidy",
-    second: |file, _, room| operations::tidy(file, room),
-    archive: |file, _, room| archive::tidy(file, room),
-    enough: 0,
-    manners: false,
-};
+const TIDY: Operation = Operation::new(
+    "tidy",
+    |file, _, room| operations::tidy(file, room),
+    |file, _, room| archive::tidy(file, room),
+);
 
 const TEXT: Operation = Operation {
-    name: "file_to_text",
-    second: |file, _, room| operations::file_to_text(file, room),
-    archive: |file, _, room| archive::file_to_text(file, room),
     enough: 25,
-    manners: false,
+    ..Operation::new(
+        "file_to_text",
+        |file, _, room| operations::file_to_text(file, room),
+        |file, _, room| archive::file_to_text(file, room),
+    )
 };
 
 const FILE: Operation = Operation {
-    name: "text_to_file",
-    second: operations::text_to_file,
-    archive: archive::text_to_file,
-    enough: 0,
     manners: true,
+    ..Operation::new("text_to_file", operations::text_to_file, archive::text_to_file)
 };
 
 fn main() -> ExitCode {

@@ -1,4 +1,4 @@
-//! The file to measure with.
+//! The files to measure with.
 
 use crate::piece::{Division, Event, Format, Kind, Piece, TextKind, Time, Track};
 use crate::spelling::{shortest, Manner};
@@ -9,19 +9,30 @@ use super::Rng;
 
 const SEED: u64 = 1_048_576;
 const LEAST: usize = 1_048_000;
+/// How many times as large the file is as the small one.
+const TIMES_SMALL: usize = 16;
 const TRACKS: usize = 16;
 const TEXT_MOST: usize = 60;
 
 /// Always the same file of 1,048,000 to 1,048,576 bytes, in manner 1, with
 /// every kind of event and all seven texts, no event over 100 bytes.
 pub fn benchmark_file() -> Vec<u8> {
+    file_of(LEAST)
+}
+
+/// One like it, a sixteenth as large, to see how times grow.
+pub fn small_benchmark_file() -> Vec<u8> {
+    file_of(LEAST / TIMES_SMALL)
+}
+
+fn file_of(least: usize) -> Vec<u8> {
     let rng = &mut Rng::new(SEED);
     let mut size = 14;
     let mut tracks = Vec::new();
     for number in 1..=TRACKS {
         // Each track brings the file to its share, the last to its least size.
         size += 8;
-        let (track, length) = track(rng, (LEAST * number / TRACKS).saturating_sub(size));
+        let (track, length) = track(rng, (least * number / TRACKS).saturating_sub(size));
         size += length;
         tracks.push(track);
     }

@@ -7,7 +7,8 @@
 //! - `room(rng, needed)`: a size of lent room, now and then too small (14).
 //! - `piece(rng)`, `spelling(rng, piece)`: good pieces and permitted spellings.
 //! - `varied_text(rng, piece)`: a text of the piece, spelled loosely.
-//! - `benchmark_file()`: one file of nearly 1 MiB.
+//! - `benchmark_file()`, `small_benchmark_file()`: one file of nearly 1 MiB, one of
+//!   nearly 64 KiB.
 //! - `limit_cases()`, `text_limit_cases()`: files and texts at the limits of size and
 //!   past them, by hand.
 //! - `mutated_copy(rng, file)`, `mutated_text(rng, text)`: with some bytes changed.
@@ -27,7 +28,7 @@ mod text_lines;
 
 pub use aims::{aims, Aim, Aimed};
 pub use at_limit::{limit_cases, LimitCase};
-pub use benchmark::benchmark_file;
+pub use benchmark::{benchmark_file, small_benchmark_file};
 pub use damaged_file::mutated_copy;
 pub use damaged_text::mutated_text;
 pub use pieces::{kind_of, piece, spelling, KINDS};

@@ -1,0 +1,123 @@
+# Shared by the scripts tool, installed and pages, each called with [ARCHIVE]: the proved library,
+# default ../target/staticlib/libnoferkash.a. Exit 1: a case failed. Exit 2: something is missing.
+script=tests/$(basename "$0")
+here=$(dirname "$(realpath "$0")")
+top=$(realpath "$here/..")
+archive=$(realpath -m "${1:-$top/target/staticlib/libnoferkash.a}")
+corpus=$here/corpus
+expected=$here/corpus/expected
+song=$corpus/midicsv-src__test.mid
+song_text=$expected/midicsv-src__test.csv
+full='No space left on device'
+version=$(sed -n 's/^#define NOFERKASH_VERSION "\(.*\)"$/\1/p' "$top/include/noferkash.h")
+export LC_ALL=C
+umask 022
+unset MAKEFLAGS MAKELEVEL DESTDIR PKG_CONFIG_PATH
+
+cases=0
+failures=0
+part=
+
+# begin PROGRAM..: these are needed. Builds the tool, and goes to an empty folder, $made/work; all
+# that is made stands in $made, which goes at the end.
+begin() {
+    local missing=0 needed
+    [ "$(id -u)" != 0 ] || set -- "$@" setpriv
+    for needed in gcc make "$@"; do
+        if ! command -v "$needed" >/dev/null; then
+            echo "$script: $needed is missing" >&2
+            missing=1
+        fi
+    done
+    if [ ! -f "$archive" ]; then
+        echo "$script: $archive is missing (rt staticlib noferkash)" >&2
+        missing=1
+    fi
+    [ "$missing" = 0 ] || exit 2
+
+    made=$(mktemp -d) || exit 2
+    trap 'chmod -R u+rwX "$made" && rm -rf "$made"' EXIT
+    # Some cases run as another user, who must reach the tool and the folder.
+    chmod 755 "$made"
+    mkdir -m 777 "$made/work"
+    tool=$made/noferkash
+    make -s -C "$top" tool ARCHIVE="$archive" BUILD="$made" >"$made/out" 2>&1 || {
+        cat "$made/out" >&2
+        echo "$script: make tool failed" >&2
+        exit 1
+    }
+    holds "make tool gives a warning" test ! -s "$made/out"
+    as_other "$tool" --version >/dev/null || {
+        echo "$script: another user cannot run $tool (set TMPDIR to a folder open to all)" >&2
+        exit 2
+    }
+    cd "$made/work" || exit 2
+}
+
+# The last line; the exit status of the whole.
+finish() {
+    echo "$script: $cases cases, $failures failed"
+    [ "$failures" = 0 ]
+}
+
+failed() {
+    failures=$((failures + 1))
+    echo "FAILED ($part): $*" >&2
+}
+
+# holds WHAT COMMAND..: the command succeeds.
+holds() {
+    local what=$1
+    shift
+    cases=$((cases + 1))
+    "$@" >/dev/null 2>&1 || failed "$what"
+}
+
+same() {
+    holds "$1 and $2 differ" cmp "$1" "$2"
+}
+
+# try STATUS LINE COMMAND..: the exit status, and all of standard error, which is that one line or
+# nothing. Standard output is kept in ../out, standard error in ../err.
+try() {
+    local status=$1 line=$2 got
+    shift 2
+    cases=$((cases + 1))
+    "$@" >"$made/out" 2>"$made/err"
+    got=$?
+    [ "$got" = "$status" ] || failed "exit $got, not $status: $*"
+    if [ -n "$line" ]; then
+        printf '%s\n' "$line" >"$made/line"
+    else
+        : >"$made/line"
+    fi
+    cmp -s "$made/err" "$made/line" ||
+        failed "standard error '$(cat "$made/err")', not '$line': $*"
+}
+
+# silent STATUS LINE COMMAND..: as try, and nothing on standard output.
+silent() {
+    try "$@"
+    holds "standard output is not empty: ${*:3}" test ! -s "$made/out"
+}
+
+as_other() {
+    if [ "$(id -u)" = 0 ]; then
+        setpriv --reuid=65534 --regid=65534 --clear-groups "$@"
+    else
+        "$@"
+    fi
+}
+
+header='MThd\0\0\0\6\0\0\0\1\0\x60'
+end='\0\xFF\x2F\0'
+
+# track LENGTH BODY: a file of one track; the body begins at byte 22.
+track() {
+    printf "${header}MTrk\\0\\0\\0$1$2"
+}
+
+# text LINE: a text whose line 3 is given.
+text() {
+    printf '0, 0, Header, 0, 1, 96\n1, 0, Start_track\n%s\n1, 0, End_track\n0, 0, End_of_file\n' "$1"
+}
