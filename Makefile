@@ -1,4 +1,4 @@
-# make           builds the proved library and runs it on an example file
+# make           builds the proved library, checks an example file with it and turns it into text
 # make tool      builds the command line tool, target/noferkash, and the library with its words for
 #                refusals, target/libnoferkash.a
 # make install   PREFIX=/usr/local DESTDIR=: header, library, pkg-config file, tool, man pages
@@ -32,8 +32,11 @@ ifneq ($(MAKECMDGOALS),install)
 .PHONY: $(PROVED)
 endif
 
-example: $(BUILD)/check_file
+example: $(BUILD)/check_file $(BUILD)/convert_file
 	$(BUILD)/check_file $(EXAMPLE)
+	$(BUILD)/convert_file $(EXAMPLE) $(BUILD)/example.csv
+	@echo "$(BUILD)/example.csv is the text of $(EXAMPLE); it begins:"
+	@head -n 4 $(BUILD)/example.csv
 
 $(PROVED):
 	rt staticlib noferkash
