@@ -1,5 +1,6 @@
 pub mod ChoiceLaws
 pub mod OutcomeLaws
+pub mod DatesLaws
 pub mod BytesLaws
 pub mod NumberLaws
 pub mod MetaLaws

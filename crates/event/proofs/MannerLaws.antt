@@ -1,6 +1,6 @@
 -- The two manners of one event: each spelling is permitted where any is, and the short one takes no more bytes than any.
 use mathlib.Core.Path.{_≡_, refl, ap}
-use Prim.Native.Nat.{ℕ, _-_, _*_, _≤_}
+use Prim.Native.Nat.{ℕ, _+_, _-_, _*_, _≤_}
 use mathlib.Core.Bool.{Bool, true, false, false≢true}
 use mathlib.Core.List.{List}
 use native.Mathlib.Omega.{arith}
@@ -82,19 +82,16 @@ frame-shorter force (meta t d) (leftOut o) p = absurd p
 frame-shorter force (meta t d) (lengthIn w) p =
     omega (arith, length-append (vlq w (length d)) d, length-append (vlq (least (length d)) (length d)) d, least-fewest w (length d) p)
 
+event-length : (prev : ℕ) (e : Event) (s : Spelling) → length (layEvent prev e s) ≡ length (vlq (s .delta) (e .time - prev)) + length (layFrame (frame (e .kind)) (s .rest))
+unfolding layEvent
+event-length prev e s = length-append (vlq (s .delta) (e .time - prev)) (layFrame (frame (e .kind)) (s .rest))
+
 pub short-event : (prev force : ℕ) (e : Event) (s : Spelling) → Permitted prev force e s
     → length (layEvent prev e (spellEvent short prev force e)) ≤ length (layEvent prev e s)
-unfolding layEvent spellEvent
+unfolding spellEvent
 short-event prev force e s p =
-    let d : ℕ = e .time - prev in
-    let x : Frame = frame (e .kind) in
-    omega (
-      arith,
-      length-append (vlq (least d) d) (layFrame x (restIn short force x)),
-      length-append (vlq (s .delta) d) (layFrame x (s .rest)),
-      least-fewest (s .delta) d (p .delta),
-      frame-shorter force x (s .rest) (p .rest),
-    )
+    omega
+    (arith, event-length prev e (spellEvent short prev force e), event-length prev e s, least-fewest (s .delta) (e .time - prev) (p .delta), frame-shorter force (frame (e .kind)) (s .rest) (p .rest))
 
 -- ---- and either manner at most twice as many
 
@@ -121,14 +118,7 @@ frame-twice short force x s p = omega (arith, frame-shorter force x s p)
 
 pub manner-event : (m : Manner) (prev force : ℕ) (e : Event) (s : Spelling) → Permitted prev force e s
     → length (layEvent prev e (spellEvent m prev force e)) ≤ 2 * length (layEvent prev e s)
-unfolding layEvent spellEvent
+unfolding spellEvent
 manner-event m prev force e s p =
-    let d : ℕ = e .time - prev in
-    let x : Frame = frame (e .kind) in
-    omega (
-      arith,
-      length-append (vlq (least d) d) (layFrame x (restIn m force x)),
-      length-append (vlq (s .delta) d) (layFrame x (s .rest)),
-      least-fewest (s .delta) d (p .delta),
-      frame-twice m force x (s .rest) (p .rest),
-    )
+    omega
+    (arith, event-length prev e (spellEvent m prev force e), event-length prev e s, least-fewest (s .delta) (e .time - prev) (p .delta), frame-twice m force (frame (e .kind)) (s .rest) (p .rest))

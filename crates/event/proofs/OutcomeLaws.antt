@@ -51,6 +51,12 @@ module _ {A : Type 0} where
   unfolding placed
   placed-eq p e = ap (placed p) e
 
+  -- what can be read is a value and a rest
+  pub readable-ok : (m : Outcome A) → Readable m → (a : A) × (r : List ℕ) × (m ≡ ok a r)
+  unfolding Readable
+  readable-ok (ok a r) h = (a, r, refl)
+  readable-ok (refused n p) h = absurd h
+
 -- one value before the list that the rest gives
 module _ {A : Type 0} where
   pub cons-readable : (a : A) (k : Outcome (List A)) → Readable (andThen k (λ xs r. ok (a ∷ xs) r)) → Readable k

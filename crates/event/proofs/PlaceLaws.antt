@@ -60,13 +60,14 @@ pub place-back : (s : List ℕ) (q : ℕ) → q ≤ length s → length s - leng
 place-back s q h = simp length-drop (omega arith)
 
 -- what the code was given, as the reader's answer
+found-at : (s : List ℕ) (at v p w : ℕ) (r : List ℕ) → Left (drop at s) (ok w r) → w ≡ v → length s - length r ≡ p → (ok w r ≡ ok v (drop p s)) × (p ≤ length s)
+found-at s at v p w r h vw pp =
+    let back : drop (length s - length r) s ≡ r = place s (h .0) r at (h .1) in
+    (cc, omega arith)
+
 number-found : (s : List ℕ) (at v p : ℕ) (m : Outcome ℕ) → Left (drop at s) m → numberStep (length s) m ≡ Value v p → (m ≡ ok v (drop p s)) × (p ≤ length s)
 unfolding numberStep
-number-found s at v p (ok w r) h e =
-    let back : drop (length s - length r) s ≡ r = place s (h .0) r at (h .1) in
-    let vw : w ≡ v = cc in
-    let pp : length s - length r ≡ p = cc in
-    (cc, omega arith)
+number-found s at v p (ok w r) h e = found-at s at v p w r h (cc) (cc)
 number-found s at v p (refused k z) h e = let w : _≡_ {A = ℕ} 0 1 = cc in absurd (omega arith)
 
 pub number-came : (s : List ℕ) (at v p : ℕ) → numberStep (length s) (readVlq (drop at s)) ≡ Value v p → (readVlq (drop at s) ≡ ok v (drop p s)) × (p ≤ length s)
@@ -79,11 +80,7 @@ number-bad n k (refused j z) e = (z, cc)
 
 byte-found : (s : List ℕ) (at v p : ℕ) (m : Outcome ℕ) → Left (drop at s) m → byteStep (length s) m ≡ Byte v p → (m ≡ ok v (drop p s)) × (p ≤ length s)
 unfolding byteStep
-byte-found s at v p (ok w r) h e =
-    let back : drop (length s - length r) s ≡ r = place s (h .0) r at (h .1) in
-    let vw : w ≡ v = cc in
-    let pp : length s - length r ≡ p = cc in
-    (cc, omega arith)
+byte-found s at v p (ok w r) h e = found-at s at v p w r h (cc) (cc)
 byte-found s at v p (refused k z) h e = let w : _≡_ {A = ℕ} 0 1 = cc in absurd (omega arith)
 
 pub byte-came : (s : List ℕ) (at v p : ℕ) → byteStep (length s) (dataByte (drop at s)) ≡ Byte v p → (dataByte (drop at s) ≡ ok v (drop p s)) × (p ≤ length s)

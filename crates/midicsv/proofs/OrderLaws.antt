@@ -8,12 +8,12 @@ use lib.ListN.{length, length-append}
 use borrow.Author.Tests.{le-leb, lt-ltb, eq-eqb}
 use Rattle.event.specs.Outcome.{Outcome, ok}
 use Rattle.event.specs.Event.{Event, isEnd}
-use Rattle.smf.specs.Piece.{Piece, Ends}
+use Rattle.smf.specs.Piece.{Piece, Header, Ends}
 use Rattle.midicsv.specs.Table.{start-track, end-of-file}
 use Rattle.midicsv.specs.Record.{Record}
 use Rattle.midicsv.specs.Text.{mark, eventRecord, eventRecords, trackRecords, headerRecord, pieceRecords}
 use Rattle.midicsv.specs.Result.{Result, good, test}
-use Rattle.midicsv.specs.Order.{Head, State, first, between, inside, finished, takeHeader, takeStart, takeEnd, afterEvent, takeEvent, stepOn, step}
+use Rattle.midicsv.specs.Order.{State, first, between, inside, finished, takeHeader, takeStart, takeEnd, afterEvent, takeEvent, stepOn, step}
 use Rattle.midicsv.specs.PieceOfText.{advance, ended}
 use Rattle.midicsv.proofs.ResultLaws.{test-eq}
 use Rattle.midicsv.proofs.LayableLaws.{Layable, LayableEvents, LayableTracks}
@@ -30,7 +30,7 @@ advance-eq n k e = ap (λ x. advance x n k) e
 
 -- ---- the events of a track
 
-event-step : (h : Head) (ts : List (List Event)) (es : List Event) (prev : ℕ) (e : Event) → Layable prev e
+event-step : (h : Header) (ts : List (List Event)) (es : List Event) (prev : ℕ) (e : Event) → Layable prev e
     → step (inside h ts es prev) (eventRecord (suc (length ts)) e) ≡ good (afterEvent (isEnd (e .kind)) h ts es e)
 unfolding step stepOn eventRecord takeEvent
 event-step h ts es prev e l =
@@ -38,7 +38,7 @@ event-step h ts es prev e l =
     ∙ test-eq 27 _ (le-leb (e .time - prev) 268435455 (l .step))
     ∙ ap (λ x. good (afterEvent (isEnd x) h ts es (record { time = e .time; kind = x }))) (kind-named (e .kind) (l .lawful .fits))
 
-module _ (h : Head) (ts : List (List Event)) (rest : List Record) (x : Outcome Piece) where
+module _ (h : Header) (ts : List (List Event)) (rest : List Record) (x : Outcome Piece) where
   -- after the event e: the rest of its track, and then what follows the track
   go-on : (b : Bool) (es : List Event) (e : Event) (fs : List Event) (n : ℕ) → Ends b fs (LayableEvents (e .time) fs)
       → ((n : ℕ) → runRecords rest (between h (ts ++ ((es ++ (e ∷ fs)) ∷ []))) n ≡ x)
@@ -60,11 +60,11 @@ module _ (h : Head) (ts : List (List Event)) (rest : List Record) (x : Outcome P
 
 -- ---- the tracks
 
-start-step : (h : Head) (ts : List (List Event)) → length ts < h .count → step (between h ts) (mark start-track (suc (length ts))) ≡ good (inside h ts [] 0)
+start-step : (h : Header) (ts : List (List Event)) → length ts < h .count → step (between h ts) (mark start-track (suc (length ts))) ≡ good (inside h ts [] 0)
 unfolding step stepOn takeStart
 start-step h ts l = test-eq 26 _ (ap₂ _&&_ (lt-ltb (length ts) (h .count) l) (ap₂ _&&_ (eq-eqb (suc (length ts)) _ refl) refl))
 
-tracks-run : (h : Head) (ts us : List (List Event)) (rest : List Record) (x : Outcome Piece) (n : ℕ) → LayableTracks us → length ts + length us ≤ h .count
+tracks-run : (h : Header) (ts us : List (List Event)) (rest : List Record) (x : Outcome Piece) (n : ℕ) → LayableTracks us → length ts + length us ≤ h .count
     → ((n : ℕ) → runRecords rest (between h (ts ++ us)) n ≡ x)
     → runRecords (trackRecords (suc (length ts)) us ++ rest) (between h ts) n ≡ x
 unfolding LayableTracks trackRecords runRecords
@@ -80,7 +80,7 @@ tracks-run h ts (t ∷ us) rest x n l c k =
 
 -- ---- the piece
 
-abbrev headOf : Piece → Head
+abbrev headOf : Piece → Header
 headOf p = record { format = p .format; count = length (p .tracks); division = p .division }
 
 header-step : (p : Piece) → step first (headerRecord p) ≡ good (between (headOf p) [])

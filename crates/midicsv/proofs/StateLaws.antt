@@ -1,22 +1,23 @@
 -- The records of an accepted text: the piece so far stays lawful and layable, and takes few bytes more than the text.
-use mathlib.Core.Path.{_≡_, refl, _∙_}
+use mathlib.Core.Path.{_≡_, refl}
 use Prim.Native.Nat.{ℕ, _+_, _-_, _<_, _≤_}
-use mathlib.Core.Bool.{Bool, true, false, not}
+use mathlib.Core.Bool.{Bool, true, false}
 use mathlib.Core.List.{List, [], _∷_, _++_, append-assoc}
 use native.Mathlib.Omega.{arith}
 use lib.ListN.{length, getD, length-append}
 use lib.Dec.{ltb, eqb}
-use borrow.Author.Tests.{leb-true, ltb-true, eqb-true, eqb-false, not-true}
+use borrow.Author.Tests.{leb-true, ltb-true, eqb-true}
 use Rattle.event.specs.Event.{Event, isEnd, Fits}
 use Rattle.event.specs.Frame.{frame}
-use Rattle.event.proofs.ChoiceLaws.{or-cases, and-both}
-use Rattle.smf.specs.Piece.{Piece, Ends, LawfulDivision, LawfulPiece}
+use Rattle.event.proofs.ChoiceLaws.{and-both}
+use Rattle.smf.specs.Piece.{Piece, Header, Ends, LawfulDivision, LawfulPiece}
+use Rattle.smf.proofs.FileLaws.{LawfulHeader, fit-is, piece-lawful}
 use Rattle.midicsv.specs.Table.{RecordName, header, start-track, end-of-file, event, spelled, shape}
 use Rattle.midicsv.specs.Record.{Values, Record}
 use Rattle.midicsv.specs.Result.{good}
 use Rattle.midicsv.specs.ReadRecord.{together}
 use Rattle.midicsv.specs.KindOf.{kindNamed}
-use Rattle.midicsv.specs.Order.{Head, State, first, between, inside, finished, takeHeader, takeStart, takeEnd, afterEvent, takeEvent, stepOn, step}
+use Rattle.midicsv.specs.Order.{State, first, between, inside, finished, takeHeader, takeStart, takeEnd, afterEvent, takeEvent, stepOn, step}
 use Rattle.midicsv.specs.PieceOfText.{textLimit}
 use Rattle.midicsv.proofs.ResultLaws.{not-good, good-same, test-good}
 use Rattle.midicsv.proofs.RowLaws.{InColumn, InColumns, InTail}
@@ -26,15 +27,8 @@ use Rattle.midicsv.proofs.RecordAcceptedLaws.{Given}
 
 -- ---- what holds after each record; n is the most that the lines so far account for
 
-pub record HeadOk (h : Head) : Type 0 where
-  pub format : h .format ≤ 2
-  pub some : 1 ≤ h .count
-  pub few : h .count ≤ 65535
-  pub single : h .format ≡ 0 → h .count ≡ 1
-  pub division : LawfulDivision (h .division)
-
-pub record BetweenOk (n : ℕ) (h : Head) (ts : List (List Event)) : Type 0 where
-  pub head : HeadOk h
+pub record BetweenOk (n : ℕ) (h : Header) (ts : List (List Event)) : Type 0 where
+  pub head : LawfulHeader h
   pub tracks : LayableTracks ts
   pub few : length ts ≤ h .count
   pub size : 14 + mostAll ts ≤ n
@@ -43,8 +37,8 @@ pub record BetweenOk (n : ℕ) (h : Head) (ts : List (List Event)) : Type 0 wher
 abbrev pub Open : List Event → ℕ → Type 0
 Open es prev = (fs : List Event) → LayableEvents prev fs → LayableEvents 0 (es ++ fs)
 
-pub record InsideOk (n : ℕ) (h : Head) (ts : List (List Event)) (es : List Event) (prev : ℕ) : Type 0 where
-  pub head : HeadOk h
+pub record InsideOk (n : ℕ) (h : Header) (ts : List (List Event)) (es : List Event) (prev : ℕ) : Type 0 where
+  pub head : LawfulHeader h
   pub tracks : LayableTracks ts
   pub few : length ts < h .count
   pub events : Open es prev
@@ -84,7 +78,7 @@ header-ok n track time ns s l h g q =
             format = omega arith;
             some = omega arith;
             few = omega arith;
-            single = λ e. or-cases (not (eqb (getD ns 0 0) 0)) (eqb (getD ns 1 0) 1) g (λ u. absurd (eqb-false (getD ns 0 0) 0 (not-true _ u) e)) (λ u. eqb-true (getD ns 1 0) 1 u);
+            single = fit-is (getD ns 0 0) (getD ns 1 0) g;
             division = omega arith;
           };
       tracks = tt;
@@ -92,7 +86,7 @@ header-ok n track time ns s l h g q =
       size = omega arith;
     })
 
-start-ok : (n m : ℕ) (h : Head) (ts : List (List Event)) (track time : ℕ) (s : State) → n + 8 ≤ m → BetweenOk n h ts → takeStart h ts track time ≡ good s → StateOk m s
+start-ok : (n m : ℕ) (h : Header) (ts : List (List Event)) (track time : ℕ) (s : State) → n + 8 ≤ m → BetweenOk n h ts → takeStart h ts track time ≡ good s → StateOk m s
 unfolding takeStart StateOk most
 start-ok n m h ts track time s l k q =
     let (t, z) = test-good _ 26 _ s q in
@@ -105,26 +99,12 @@ start-ok n m h ts track time s l k q =
       size = omega (arith, k .size);
     })
 
-end-ok : (n m : ℕ) (h : Head) (ts : List (List Event)) (track time : ℕ) (s : State) → n ≤ m → BetweenOk n h ts → takeEnd h ts track time ≡ good s → StateOk m s
+end-ok : (n m : ℕ) (h : Header) (ts : List (List Event)) (track time : ℕ) (s : State) → n ≤ m → BetweenOk n h ts → takeEnd h ts track time ≡ good s → StateOk m s
 unfolding takeEnd StateOk
 end-ok n m h ts track time s l k q =
     let (t, z) = test-good _ 26 _ s q in
     let c : length ts ≡ h .count = eqb-true (length ts) (h .count) (and-both (eqb (length ts) (h .count)) _ t .0) in
-    let o : HeadOk h = k .head in
-    rw (← (good-same z))
-    (record {
-      lawful =
-          record {
-            format = o .format;
-            some = omega (arith, o .some);
-            few = omega (arith, o .few);
-            single = λ e. c ∙ o .single e;
-            division = o .division;
-            tracks = tracks-lawful ts (k .tracks);
-          };
-      tracks = k .tracks;
-      size = omega (arith, k .size);
-    })
+    rw (← (good-same z)) (record { lawful = piece-lawful h ts (k .head) c (tracks-lawful ts (k .tracks)); tracks = k .tracks; size = omega (arith, k .size) })
 
 -- ---- events
 
@@ -147,7 +127,7 @@ followed : (b : Bool) (e : Event) (fs : List Event) (prev : ℕ) → Layable pre
 unfolding LayableEvents
 followed b e fs prev l q a = (l, rw q a)
 
-after-ok : (n m : ℕ) (b : Bool) (h : Head) (ts : List (List Event)) (es : List Event) (prev : ℕ) (e : Event) → n + (10 + dataSize (frame (e .kind))) ≤ m → isEnd (e .kind) ≡ b → Layable prev e
+after-ok : (n m : ℕ) (b : Bool) (h : Header) (ts : List (List Event)) (es : List Event) (prev : ℕ) (e : Event) → n + (10 + dataSize (frame (e .kind))) ≤ m → isEnd (e .kind) ≡ b → Layable prev e
     → InsideOk n h ts es prev → StateOk m (afterEvent b h ts es e)
 unfolding afterEvent StateOk Ends
 after-ok n m true h ts es prev e w q l k =
@@ -166,7 +146,7 @@ after-ok n m false h ts es prev e w q l k =
       size = omega (arith, k .size, most-snoc es e);
     }
 
-event-ok : (n m : ℕ) (h : Head) (ts : List (List Event)) (es : List Event) (prev track : ℕ) (e : Event) (s : State)
+event-ok : (n m : ℕ) (h : Header) (ts : List (List Event)) (es : List Event) (prev track : ℕ) (e : Event) (s : State)
     → n + (10 + dataSize (frame (e .kind))) ≤ m → dataSize (frame (e .kind)) ≤ 268435455 → e .time ≤ 4294967295 → Fits (e .kind)
     → InsideOk n h ts es prev → takeEvent h ts es prev track e ≡ good s → StateOk m s
 unfolding takeEvent
@@ -180,11 +160,11 @@ event-ok n m h ts es prev track e s w d ht f k q =
 
 -- ---- any record
 
-between-ok : (n : ℕ) (h : Head) (ts : List (List Event)) → StateOk n (between h ts) → BetweenOk n h ts
+between-ok : (n : ℕ) (h : Header) (ts : List (List Event)) → StateOk n (between h ts) → BetweenOk n h ts
 unfolding StateOk
 between-ok n h ts k = k
 
-inside-ok : (n : ℕ) (h : Head) (ts : List (List Event)) (es : List Event) (p : ℕ) → StateOk n (inside h ts es p) → InsideOk n h ts es p
+inside-ok : (n : ℕ) (h : Header) (ts : List (List Event)) (es : List Event) (p : ℕ) → StateOk n (inside h ts es p) → InsideOk n h ts es p
 unfolding StateOk
 inside-ok n h ts es p k = k
 

@@ -1,12 +1,10 @@
 -- Demand 2, the text side: the text of a piece that has a layout is read to that piece, and is never too long.
 use mathlib.Core.Path.{_≡_, refl, ap, _∙_}
-use Prim.Native.Nat.{ℕ, zero, suc, _+_, _≤_}
-use mathlib.Core.Bool.{Bool, true, false, not, _||_}
+use Prim.Native.Nat.{ℕ, suc, _+_, _≤_}
+use mathlib.Core.Bool.{Bool, true, false}
 use mathlib.Core.List.{List, [], _∷_, _++_}
 use native.Mathlib.Omega.{arith}
 use lib.ListN.{length}
-use lib.Dec.{eqb}
-use borrow.Author.Tests.{eq-eqb, ne-eqb}
 use Rattle.event.specs.Outcome.{Outcome, ok}
 use Rattle.event.specs.Event.{Event, isEnd}
 use Rattle.event.proofs.ChoiceLaws.{pick-false}
@@ -14,6 +12,7 @@ use Rattle.smf.specs.Piece.{Piece, Ends, LawfulDivision, LawfulPiece}
 use Rattle.smf.specs.Spelling.{PermittedPiece}
 use Rattle.smf.specs.Layout.{LaidOut}
 use Rattle.smf.specs.Reader.{fileLimit}
+use Rattle.smf.proofs.FileLaws.{fit-yes}
 use Rattle.midicsv.specs.Field.{decimal, lineOf, show}
 use Rattle.midicsv.specs.Table.{start-track, end-of-file, shape}
 use Rattle.midicsv.specs.Record.{Record, recordLine}
@@ -123,10 +122,6 @@ tracks-sound n [] h l = tt
 tracks-sound n (t ∷ ts) h l =
     (start-sound n (omega arith), sound-append (eventRecords n t) (trackRecords (suc n) ts) (events-sound n 0 t (omega arith) (l .0)) (tracks-sound (suc n) ts (omega arith) (l .1)))
 
-single-ok : (f n : ℕ) → (f ≡ 0 → n ≡ 1) → (not (eqb f 0) || eqb n 1) ≡ true
-single-ok zero n h = eq-eqb n 1 (h refl)
-single-ok (suc f) n h = ap (λ t. not t || eqb n 1) (ne-eqb (suc f) 0 (λ e. omega arith))
-
 header-sound : (p : Piece) → LawfulPiece p → Sound (headerRecord p)
 unfolding headerRecord shape together InColumns InColumn InTail LawfulDivision
 header-sound p l =
@@ -137,7 +132,7 @@ header-sound p l =
       columns = omega (arith, l .format, l .some, l .few, l .division);
       tail = refl;
       small = omega arith;
-      together = single-ok (p .format) (length (p .tracks)) (l .single);
+      together = fit-yes (p .format) (length (p .tracks)) (l .single);
     }
 
 piece-sound : (p : Piece) → LawfulPiece p → LayableTracks (p .tracks) → AllSound (pieceRecords p)

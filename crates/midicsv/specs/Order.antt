@@ -6,23 +6,17 @@ use mathlib.Core.List.{List, [], _∷_, _++_}
 use lib.ListN.{length, getD}
 use lib.Dec.{leb, ltb, eqb}
 use Rattle.event.specs.Event.{Event, isEnd}
-use Rattle.smf.specs.Piece.{Division, Piece}
+use Rattle.smf.specs.Piece.{Piece, Header}
 use Rattle.midicsv.specs.Table.{RecordName, header, start-track, end-of-file, event}
 use Rattle.midicsv.specs.Record.{Values, Record}
 use Rattle.midicsv.specs.Result.{Result, good, bad, test}
 use Rattle.midicsv.specs.KindOf.{kindNamed}
 
--- what the Header says
-pub record Head : Type 0 where
-  pub format : ℕ
-  pub count : ℕ
-  pub division : Division
-
 -- before the Header; between tracks, with those read; in a track, with its events and the Time of the last; after End_of_file
 pub data State : Type 0 where
   first : State
-  between : Head → List (List Event) → State
-  inside : Head → List (List Event) → List Event → ℕ → State
+  between : Header → List (List Event) → State
+  inside : Header → List (List Event) → List Event → ℕ → State
   finished : Piece → State
 
 -- 26: "a wrong Track, or a Time not 0 in Header, Start_track or End_of_file"
@@ -32,23 +26,23 @@ takeHeader track time ns =
     (good (between (record { format = getD ns 0 0; count = getD ns 1 0; division = record { pulses = getD ns 2 0 } }) []))
 
 -- "for each of the tracks it counts (more or fewer is 26), numbered 1, 2, .."
-unfoldable pub takeStart : Head → List (List Event) → ℕ → ℕ → Result State
+unfoldable pub takeStart : Header → List (List Event) → ℕ → ℕ → Result State
 takeStart h ts track time =
     test (ltb (length ts) (h .count) && (eqb track (suc (length ts)) && eqb time 0)) 26 (good (inside h ts [] 0))
 
 -- "then End_of_file", when all the tracks that the Header counts are there
-unfoldable pub takeEnd : Head → List (List Event) → ℕ → ℕ → Result State
+unfoldable pub takeEnd : Header → List (List Event) → ℕ → ℕ → Result State
 takeEnd h ts track time =
     test (eqb (length ts) (h .count) && (eqb track 0 && eqb time 0)) 26
     (good (finished (record { format = h .format; division = h .division; tracks = ts })))
 
 -- after the event e, which is End_track or not
-unfoldable pub afterEvent : Bool → Head → List (List Event) → List Event → Event → State
+unfoldable pub afterEvent : Bool → Header → List (List Event) → List Event → Event → State
 afterEvent true h ts es e = between h (ts ++ ((es ++ (e ∷ [])) ∷ []))
 afterEvent false h ts es e = inside h ts (es ++ (e ∷ [])) (e .time)
 
 -- 26: "record not permitted there, or Time falling"; 27: "step in Time over 268,435,455"
-unfoldable pub takeEvent : Head → List (List Event) → List Event → ℕ → ℕ → Event → Result State
+unfoldable pub takeEvent : Header → List (List Event) → List Event → ℕ → ℕ → Event → Result State
 takeEvent h ts es prev track e =
     test (eqb track (suc (length ts)) && leb prev (e .time)) 26
     (test (leb (e .time - prev) 268435455) 27

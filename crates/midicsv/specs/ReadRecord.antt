@@ -1,13 +1,14 @@
 -- A line as a record, its tests in their order: "22 over all fields, 24 if under three, 23, then 24 (in records with a Length: 24 if it is
 -- missing, 25 if it is no non-negative number, 24 if the count differs), 25".
 use Prim.Native.Nat.{ℕ, _+_, _-_}
-use mathlib.Core.Bool.{Bool, true, false, not, _&&_, _||_}
+use mathlib.Core.Bool.{Bool, true, false, _&&_}
 use mathlib.Core.List.{List, [], _∷_}
 use lib.ListN.{length, getD}
 use lib.Dec.{leb, ltb, eqb}
 use Rattle.event.specs.Choice.{pick}
 use Rattle.event.specs.Outcome.{Outcome, ok, refused}
 use Rattle.event.specs.Meta.{MetaKind, sequenceKind, textKind, prefixKind, portKind, endKind, tempoKind, offsetKind, timeKind, keyKind, specificKind, unknownKind, kindOf}
+use Rattle.smf.specs.Piece.{tracksFit}
 use Rattle.midicsv.specs.Field.{bytes, Field, num, minus, name, quoted}
 use Rattle.midicsv.specs.Table.{RecordName, header, start-track, end-of-file, event, Column, range, key, mode, freeType, Tail, none, oneText, sized, shape}
 use Rattle.midicsv.specs.Record.{Values, Record}
@@ -103,7 +104,7 @@ readColumns (c ∷ cs) t (f ∷ fs) =
 
 -- 25: "format 0 with a track count other than 1"
 unfoldable pub together : RecordName → List ℕ → Bool
-together header ns = not (eqb (getD ns 0 0) 0) || eqb (getD ns 1 0) 1
+together header ns = tracksFit (getD ns 0 0) (getD ns 1 0)
 together start-track ns = true
 together end-of-file ns = true
 together (event g) ns = true

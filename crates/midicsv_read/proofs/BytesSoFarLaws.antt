@@ -8,11 +8,11 @@ use Rattle.event.specs.Event.{Event}
 use Rattle.event.specs.Frame.{frame, after, noStatus}
 use Rattle.event.specs.Layout.{layEvent}
 use Rattle.event.specs.Manner.{Manner, spellEvent}
-use Rattle.smf.specs.Piece.{Division}
+use Rattle.smf.specs.Piece.{Division, Header}
 use Rattle.smf.specs.Layout.{trackTag, layEvents, layTrack, layTracks, layDivision, layHeader, layPiece}
 use Rattle.smf.specs.Manner.{spellEvents, spellTracks, spelling, fileOf}
 use Rattle.smf.specs.Step.{lastTime}
-use Rattle.midicsv.specs.Order.{Head, between, inside, finished}
+use Rattle.midicsv.specs.Order.{between, inside, finished}
 use Rattle.midicsv_read.specs.Progress.{lastForce, eventsBytes, tracksBytes, betweenBytes, frontBytes, bytesOf}
 
 -- ---- one event more
@@ -36,7 +36,7 @@ events-from m prev force (x ∷ es) e =
     ap (λ z. layEvent prev x (spellEvent m prev force x) ++ z) (events-from m (x .time) (after (frame (x .kind))) es e)
     ∙ sym (append-assoc (layEvent prev x (spellEvent m prev force x)) _ _)
 
-pub inside-more : (m : Manner) (h : Head) (ts : List (List Event)) (es : List Event) (prev p : ℕ) (e : Event)
+pub inside-more : (m : Manner) (h : Header) (ts : List (List Event)) (es : List Event) (prev p : ℕ) (e : Event)
     → bytesOf m (inside h ts (es ++ (e ∷ [])) p)
     ≡ bytesOf m (inside h ts es prev) ++ layEvent (lastTime 0 es) e (spellEvent m (lastTime 0 es) (lastForce noStatus es) e)
 unfolding bytesOf eventsBytes
@@ -59,7 +59,7 @@ tracks-more m (u ∷ ts) t =
     ap (λ z. layTrack u (spellEvents m 0 noStatus u) ++ z) (tracks-more m ts t)
     ∙ sym (append-assoc (layTrack u (spellEvents m 0 noStatus u)) _ _)
 
-pub between-more : (m : Manner) (h : Head) (ts : List (List Event)) (t : List Event)
+pub between-more : (m : Manner) (h : Header) (ts : List (List Event)) (t : List Event)
     → bytesOf m (between h (ts ++ (t ∷ []))) ≡ frontBytes m h ts ++ (bigEndian 4 (length (eventsBytes m t)) ++ eventsBytes m t)
 unfolding bytesOf betweenBytes frontBytes
 between-more m h ts t =
@@ -69,7 +69,7 @@ between-more m h ts t =
 
 -- ---- at the end
 
-pub finished-same : (m : Manner) (h : Head) (ts : List (List Event)) → length ts ≡ h .count
+pub finished-same : (m : Manner) (h : Header) (ts : List (List Event)) → length ts ≡ h .count
     → bytesOf m (finished (record { format = h .format; division = h .division; tracks = ts })) ≡ bytesOf m (between h ts)
 unfolding bytesOf betweenBytes tracksBytes fileOf layPiece spelling
 finished-same m h ts e = rw e

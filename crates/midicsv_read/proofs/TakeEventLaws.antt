@@ -6,18 +6,15 @@ use mathlib.Core.List.{List, [], _∷_, _++_}
 use native.Mathlib.Omega.{arith}
 use lib.ListN.{length, getD, drop, length-append}
 use lib.Dec.{leb, eqb}
-use borrow.Author.Tests.{le-leb, lt-leb, leb-true, leb-false, eq-eqb, ne-eqb}
+use borrow.Author.Tests.{le-leb, lt-leb, eq-eqb, ne-eqb}
 use Rattle.event.specs.Bytes.{bigEndian}
 use Rattle.event.specs.Event.{Event, isEnd}
 use Rattle.event.specs.Frame.{noStatus}
 use Rattle.event.specs.Layout.{layEvent}
 use Rattle.event.specs.Manner.{Manner, spellEvent}
 use Rattle.event.specs.Step.{endOf}
-use Rattle.event.specs.Dates.{sinceOf}
-use Rattle.event.specs.declared.Delta.{Delta}
-use Rattle.event.specs.declared.Since.the-variants.{After, Before}
 use Rattle.event.proofs.BytesLaws.{length-bigEndian}
-use Rattle.event.proofs.ChoiceLaws.{pick-cases, and-both}
+use Rattle.event.proofs.ChoiceLaws.{and-both}
 use Rattle.event_write.specs.Written.{Written}
 use Rattle.event_write.specs.Head.{headBytes}
 use Rattle.event_write.proofs.WriteLaws.{then}
@@ -26,7 +23,8 @@ use Rattle.midicsv.specs.Record.{Values, Record}
 use Rattle.midicsv.specs.Result.{good, test}
 use Rattle.midicsv.specs.Names.{allNames}
 use Rattle.midicsv.specs.KindOf.{kindNamed}
-use Rattle.midicsv.specs.Order.{Head, first, between, inside, finished, afterEvent, takeEvent, stepOn, step}
+use Rattle.smf.specs.Piece.{Header}
+use Rattle.midicsv.specs.Order.{first, between, inside, finished, afterEvent, takeEvent, stepOn, step}
 use Rattle.midicsv.specs.PieceOfText.{textLimit}
 use Rattle.midicsv.proofs.ResultLaws.{test-eq}
 use Rattle.midicsv.proofs.LayableLaws.{Layable}
@@ -65,19 +63,6 @@ event-name zero h k = absurd (omega arith)
 event-name (suc zero) h k = absurd (omega arith)
 event-name (suc (suc zero)) h k = absurd (omega arith)
 event-name (suc (suc (suc i))) h k = nth-event (drop 3 allNames) i refl (omega arith)
-
--- ---- Times
-
-pub since-before : (t u : ℕ) → sinceOf t u ≡ Before → t < u
-unfolding sinceOf
-since-before t u e = pick-cases (leb u t) _ _ Before e (λ k q. let z : _≡_ {A = ℕ} 0 1 = cc in absurd (omega arith)) (λ k q. leb-false u t k)
-
-pub since-after : (t u : ℕ) (d : Delta) → sinceOf t u ≡ After d → (u ≤ t) × (d .0 ≡ t - u)
-unfolding sinceOf
-since-after t u d e =
-    pick-cases (leb u t) _ _ (After d) e
-    (λ k q. (leb-true u t k, let z : record { 0 = t - u } ≡ d = cc in sym (ap (λ (w : Delta). w .0) z)))
-    (λ k q. let z : _≡_ {A = ℕ} 0 1 = cc in absurd (omega arith))
 
 module _ (m : Manner) (st : Progress) (out : List ℕ) (track time : ℕ) (v : Values) where
   abbrev said : RecordName → Record
@@ -122,7 +107,7 @@ module _ (m : Manner) (st : Progress) (out : List ℕ) (track time : ℕ) (v : V
       rw (eq-eqb track (suc (length ts)) (omega (arith, k .tracks)), lt-leb prev time (omega (arith, k .time)))
   event-falls (event g) new i t n (finished p) old a = refl
 
-  passes : (h : Head) (ts : List (List Event)) (es : List Event) (prev : ℕ) → Inside m st h ts es prev → track ≡ st .tracks + 1 → st .time .0 ≤ time
+  passes : (h : Header) (ts : List (List Event)) (es : List Event) (prev : ℕ) → Inside m st h ts es prev → track ≡ st .tracks + 1 → st .time .0 ≤ time
       → (eqb track (suc (length ts)) && leb prev time) ≡ true
   passes h ts es prev k t n = ap₂ _&&_ (eq-eqb track (suc (length ts)) (omega (arith, k .tracks))) (le-leb prev time (omega (arith, k .time)))
 
@@ -141,7 +126,7 @@ module _ (m : Manner) (st : Progress) (out : List ℕ) (track time : ℕ) (v : V
 
   -- ---- taken
 
-  module _ (g : EventName) (h : Head) (ts : List (List Event)) (es : List Event) (prev d : ℕ) (k : Inside m st h ts es prev) (there : InTrack st track time d) where
+  module _ (g : EventName) (h : Header) (ts : List (List Event)) (es : List Event) (prev d : ℕ) (k : Inside m st h ts es prev) (there : InTrack st track time d) where
     taken : step (inside h ts es prev) (said (event g)) ≡ good (afterEvent (isEnd (kindNamed g v)) h ts es (this g))
     unfolding step stepOn takeEvent
     taken =
@@ -203,7 +188,7 @@ module _ (m : Manner) (st : Progress) (out : List ℕ) (track time : ℕ) (v : V
   event-moved (event g) new start n d at f i gv short there b z w (finished p) old a = absurd (omega (arith, a .numbers, there .phase))
 
   -- the length that the track has, over the zero that stood for it
-  filled : (h : Head) (ts : List (List Event)) (es : List Event) (old mid new : List ℕ) (at next : ℕ) → st .size ≡ length (frontBytes m h ts)
+  filled : (h : Header) (ts : List (List Event)) (es : List Event) (old mid new : List ℕ) (at next : ℕ) → st .size ≡ length (frontBytes m h ts)
       → Written old 0 (bytesOf m (inside h ts es time)) mid at → Written mid (st .size) (bigEndian 4 (at - st .size - 4)) new next
       → Written old 0 (bytesOf m (between h (ts ++ (es ∷ [])))) new at
   unfolding bytesOf

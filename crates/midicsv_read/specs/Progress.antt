@@ -9,7 +9,7 @@ use Rattle.event.specs.Frame.{frame, after, noStatus}
 use Rattle.event.specs.Manner.{Manner}
 use Rattle.event.specs.Outcome.{Outcome, ok, refused}
 use Rattle.event_write.specs.Written.{Written, overwrite}
-use Rattle.smf.specs.Piece.{Division, Piece}
+use Rattle.smf.specs.Piece.{Division, Piece, Header}
 use Rattle.smf.specs.Layout.{trackTag, layEvents, layTracks, layHeader}
 use Rattle.smf.specs.Manner.{spellEvents, spellTracks, fileOf}
 use Rattle.smf.specs.Step.{lastTime}
@@ -17,7 +17,7 @@ use Rattle.midicsv.specs.Table.{header, start-track, end-of-file}
 use Rattle.midicsv.specs.Record.{plain}
 use Rattle.midicsv.specs.Result.{Result, good, bad}
 use Rattle.midicsv.specs.ReadRecord.{readLine}
-use Rattle.midicsv.specs.Order.{Head, State, first, between, inside, finished, stepOn, step}
+use Rattle.midicsv.specs.Order.{State, first, between, inside, finished, stepOn, step}
 use Rattle.midicsv.specs.PieceOfText.{tellLine, stepTold, textLimit}
 use Rattle.midicsv_record.specs.Row.{recordIn}
 use Rattle.midicsv_record.specs.declared.Row.{Row}
@@ -41,11 +41,11 @@ unfoldable pub tracksBytes : Manner → List (List Event) → List ℕ
 tracksBytes m ts = layTracks ts (spellTracks m ts)
 
 -- the header and the tracks
-unfoldable pub betweenBytes : Manner → Head → List (List Event) → List ℕ
+unfoldable pub betweenBytes : Manner → Header → List (List Event) → List ℕ
 betweenBytes m h ts = layHeader (h .format) (h .count) (h .division) (tracksBytes m ts)
 
 -- all before the length of the present track
-unfoldable pub frontBytes : Manner → Head → List (List Event) → List ℕ
+unfoldable pub frontBytes : Manner → Header → List (List Event) → List ℕ
 frontBytes m h ts = betweenBytes m h ts ++ bigEndian 4 trackTag
 
 -- a zero stands for the length of the present track
@@ -57,14 +57,14 @@ bytesOf m (finished p) = fileOf m p
 
 -- ---- the numbers of the pass in a state
 
-pub record Between (st : Progress) (h : Head) (ts : List (List Event)) : Type 0 where
+pub record Between (st : Progress) (h : Header) (ts : List (List Event)) : Type 0 where
   pub phase : st .phase ≡ 1
   pub count : st .count ≡ h .count
   pub tracks : st .tracks ≡ length ts
   pub most : length ts ≤ h .count
   pub few : h .count ≤ 65535
 
-pub record Inside (m : Manner) (st : Progress) (h : Head) (ts : List (List Event)) (es : List Event) (prev : ℕ) : Type 0 where
+pub record Inside (m : Manner) (st : Progress) (h : Header) (ts : List (List Event)) (es : List Event) (prev : ℕ) : Type 0 where
   pub phase : st .phase ≡ 2
   pub count : st .count ≡ h .count
   pub tracks : st .tracks ≡ length ts

@@ -14,6 +14,7 @@ use Rattle.midicsv.specs.Table.{eventSpelled, spelled, RecordName, header, star
 use Rattle.midicsv.specs.ReadField.{allFields}
 use Rattle.midicsv.specs.Result.{Result, good, bad, next, test}
 use Rattle.midicsv.specs.Names.{sameName, find, nameFrom}
+use Rattle.smf.specs.Piece.{tracksFit}
 use Rattle.midicsv.specs.ReadRecord.{sizeOf, counted, readColumn, readTail, readColumns, together, withValues, recordOf, ofFields, readLine}
 use Rattle.midicsv_scan.specs.FieldStep.{Counted, FieldIs}
 use Rattle.midicsv_record.specs.Row.{nameAt, nameAs, bodyIn, columnsIn, recordIn}
@@ -83,7 +84,7 @@ module _ (l : List ℕ) (r : Row) (x : List ℕ) (fs : List Field) where
 -- ---- a name without the Header's rule
 
 pub no-header : (n : RecordName) (ns : List ℕ) → together n [] ≡ true → true ≡ together n ns
-unfolding together
+unfolding together tracksFit
 no-header header ns e = let z : _≡_ {A = Bool} false true = e in cc
 no-header start-track ns e = refl
 no-header end-of-file ns e = refl

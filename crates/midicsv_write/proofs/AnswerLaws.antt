@@ -6,35 +6,28 @@ use native.Mathlib.Omega.{arith}
 use lib.ListN.{length, drop}
 use lib.Dec.{leb}
 use lib.Seq.{sets}
-use borrow.Author.Tests.{leb-true, le-leb, lt-leb}
+use borrow.Author.Tests.{le-leb, lt-leb}
 use Rattle.event.specs.Bytes.{Bytes}
 use Rattle.event.specs.Choice.{pick}
 use Rattle.event.specs.Outcome.{Outcome, ok, refused}
 use Rattle.event.proofs.ChoiceLaws.{by-test}
-use Rattle.event.proofs.OutcomeLaws.{check-ok}
 use Rattle.event_write.proofs.WriteLaws.{put-whole}
 use Rattle.smf.specs.Piece.{Piece}
 use Rattle.smf.specs.Reader.{fileLimit, readFile}
 use Rattle.smf.specs.PieceRead.{pieceRead}
 use Rattle.smf.specs.Answer.{success, roomNeeded, verdict}
 use Rattle.smf.specs.declared.Answer.{Answer}
-use Rattle.smf.proofs.FileLaws.{piece-sound}
-use Rattle.smf.proofs.RefusalLaws.{place-small}
+use Rattle.smf.proofs.FileLaws.{file-sound}
+use Rattle.smf.proofs.RefusalLaws.{judged-refused, place-small}
 use Rattle.smf.proofs.WritingLaws.{Fits28}
 use Rattle.smf.proofs.AcceptedLaws.{AcceptedFile}
 use Rattle.midicsv.specs.Text.{textOf}
 use Rattle.midicsv.proofs.BoundLaws.{text-bound}
 use Rattle.midicsv_write.specs.ToText.{textAnswer, textLeaves}
 
-pub refused-answer : (room : ℕ) (x : Outcome Piece) (v : Answer) → v ≡ verdict x → (v .number ≡ 0 → ⊥) → v ≡ textAnswer room x
-unfolding verdict textAnswer
-refused-answer room (ok p r) v e h = absurd (h (ap (λ (w : Answer). w .number) e))
-refused-answer room (refused k q) v e h = e
-
-pub refused-leaves : (x : Outcome Piece) (v : Answer) (old : List ℕ) → v ≡ verdict x → (v .number ≡ 0 → ⊥) → old ≡ textLeaves x old
-unfolding verdict textLeaves
-refused-leaves (ok p r) v old e h = absurd (h (ap (λ (w : Answer). w .number) e))
-refused-leaves (refused k q) v old e h = refl
+pub text-refused : (x : Outcome Piece) (v : Answer) (old : List ℕ) → v ≡ verdict x → (v .number ≡ 0 → ⊥) → (v ≡ textAnswer (length old) x) × (old ≡ textLeaves x old)
+unfolding textAnswer textLeaves
+text-refused x v old e h = judged-refused x v e h (λ k p q w. (rw q w, rw q refl))
 
 module _ (s : List ℕ) (there : AcceptedFile s) where
   abbrev Out : List ℕ
@@ -42,9 +35,8 @@ module _ (s : List ℕ) (there : AcceptedFile s) where
 
   -- "at most 25·n bytes"
   pub text-fits : Bytes s → length Out ≤ 25 * length s
-  unfolding readFile
   text-fits bs =
-      let laid = piece-sound s (there .piece) (there .rest) bs (check-ok _ 1 0 _ _ _ (there .read) .1) in
+      let (laid, short) = file-sound s (there .piece) (there .rest) bs (there .read) in
       rw (there .same) (text-bound s (there .piece) (laid .laid))
 
   module _ (old : List ℕ) (n : ℕ) (size : n ≡ length Out) where
@@ -72,11 +64,10 @@ unfolding pick
 text-answer-fits room n h = by-test (leb n room) (λ e. rw e (record { place = omega arith; length = h })) (λ e. rw e (record { place = omega arith; length = h }))
 
 answer-with : (room : ℕ) (f : List ℕ) (x : Outcome Piece) → Bytes f → readFile f ≡ x → verdict x .place ≤ fileLimit → Fits28 (textAnswer room x)
-unfolding textAnswer verdict readFile
+unfolding textAnswer verdict
 answer-with room f (ok p r) bs e h =
-    let (t, q) = check-ok _ 1 0 _ p r e in
-    let laid = piece-sound f p r bs q in
-    text-answer-fits room (length (textOf p)) (omega (arith, text-bound f p (laid .laid), leb-true (length f) fileLimit t))
+    let (laid, short) = file-sound f p r bs e in
+    text-answer-fits room (length (textOf p)) (omega (arith, text-bound f p (laid .laid), short))
 answer-with room f (refused k q) bs e h = record { place = omega (arith, h); length = omega arith }
 
 pub answer-fits : (room : ℕ) (f : List ℕ) → Bytes f → Fits28 (textAnswer room (readFile f))

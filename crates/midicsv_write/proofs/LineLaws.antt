@@ -1,12 +1,15 @@
 -- The fields of a record in a row, the parts of a record's line, and how long they are.
 use mathlib.Core.Path.{_≡_, refl, sym, ap, subst, _∙_}
 use Prim.Native.Nat.{ℕ, zero, suc, _+_, _*_, _-_, _≤_, zero-le}
+use mathlib.Core.Bool.{Bool, true, _&&_, _||_}
+use mathlib.Core.Logic.{inl, inr}
 use mathlib.Core.List.{List, [], _∷_, _++_, append-assoc, append-nil}
 use native.Mathlib.Omega.{arith}
 use denote.Enum.Declared.{tagOf}
 use types.Run.{OneOf, miss}
-use lib.ListN.{length, length-append}
-use lib.Dec.{ltb, eqb}
+use lib.ListN.{length, getD, length-append, drop-of-length-le}
+use lib.Dec.{leb, ltb, eqb}
+use borrow.Author.Tests.{leb-true, ltb-true}
 use Rattle.event.specs.Choice.{pick}
 use Rattle.event.specs.Event.{Event, Kind, noteOff, noteOn, polyAftertouch, control, program, channelAftertouch, pitchBend, systemExclusive, systemExclusivePacket, sequenceNumber, text, channelPrefix, midiPort, endTrack, tempo, smpteOffset, timeSignature, keySignature, sequencerSpecific, unknownMeta}
 use Rattle.event.specs.Reader.{keyOf}
@@ -15,7 +18,7 @@ use Rattle.event.specs.declared.Time.{Time}
 use Rattle.event.specs.declared.EventKind.{EventKind}
 use Rattle.event.specs.declared.EventKind.the-variants.{NoteOff, NoteOn, PolyAftertouch, Control, Program, ChannelAftertouch, PitchBend, SystemExclusive, SystemExclusivePacket, SequenceNumber, Text, ChannelPrefix, MidiPort, EndTrack, Tempo, SmpteOffset, TimeSignature, KeySignature, SequencerSpecific, UnknownMeta}
 use Rattle.event.proofs.EventKind.{the-type}
-use Rattle.event.proofs.ChoiceLaws.{by-test}
+use Rattle.event.proofs.ChoiceLaws.{by-test, or-cases, and-both}
 use Rattle.event_write.specs.Written.{Written}
 use Rattle.event_write.proofs.DataLaws.{data-length}
 use Rattle.midicsv.specs.Field.{bytes, digitsOf, decimal, inOctal, escape, escapeAll, quote, Field, num, show, joined, further, lineOf}
@@ -24,7 +27,7 @@ use Rattle.midicsv.specs.Record.{columnField, tailFields, fieldsOf, recordLine,
 use Rattle.midicsv.specs.Text.{mark, eventRecord, recordsText}
 use Rattle.midicsv.proofs.KindAcceptedLaws.{key-same}
 use Rattle.midicsv.proofs.FieldLaws.{decimal-length, quote-length, data-length as fields-length}
-use Rattle.midicsv_write.specs.Line.{eventFrom, columnFields, bodyFields, line, headerFor}
+use Rattle.midicsv_write.specs.Line.{eventFrom, columnFields, columnCount, bodyFields, line, headerFor}
 
 -- ---- fields in a row
 
@@ -195,33 +198,70 @@ tail-length sized d = simp length-append (omega (arith, decimal-length (length d
 pub body-length : (body : List ℕ) (k : EventKind) → length (further (bodyFields (kindFrom body k))) ≤ 12 + 12 * length body
 body-length body k = omega (arith, tail-length (eventShape (nameOf (kindFrom body k)) .tail) (valuesOf (kindFrom body k) .body), same-row body k .data-few)
 
--- ---- the kinds without columns, and those without Text or Data, by the tags of the code's enum
+-- ---- the number of columns, and the kinds without Text or Data, by the tags of the code's enum
 
-abbrev columnless : List ℕ
-columnless = 7 ∷ 8 ∷ 10 ∷ 13 ∷ 18 ∷ []
+abbrev columnCounts : List ℕ
+columnCounts = 3 ∷ 3 ∷ 3 ∷ 3 ∷ 2 ∷ 2 ∷ 2 ∷ 0 ∷ 0 ∷ 1 ∷ 0 ∷ 1 ∷ 1 ∷ 0 ∷ 1 ∷ 5 ∷ 4 ∷ 2 ∷ 0 ∷ 1 ∷ []
 
-pub no-columns : (k : EventKind) → OneOf columnless (tagOf the-type k) → columnFields (kindFrom [] k) ≡ []
+tag-count : (k : EventKind) → columnCount k ≡ getD columnCounts (tagOf the-type k) 0
 unfolding kindFrom nameOf eventShape valuesOf fieldsOf tailFields
-no-columns (NoteOff a b c) h = absurd (miss columnless 0 tt h)
-no-columns (NoteOn a b c) h = absurd (miss columnless 1 tt h)
-no-columns (PolyAftertouch a b c) h = absurd (miss columnless 2 tt h)
-no-columns (Control a b c) h = absurd (miss columnless 3 tt h)
-no-columns (Program a b) h = absurd (miss columnless 4 tt h)
-no-columns (ChannelAftertouch a b) h = absurd (miss columnless 5 tt h)
-no-columns (PitchBend a b) h = absurd (miss columnless 6 tt h)
-no-columns (SystemExclusive a b) h = refl
-no-columns (SystemExclusivePacket a b) h = refl
-no-columns (SequenceNumber a) h = absurd (miss columnless 9 tt h)
-no-columns (Text t a b) h = refl
-no-columns (ChannelPrefix a) h = absurd (miss columnless 11 tt h)
-no-columns (MidiPort a) h = absurd (miss columnless 12 tt h)
-no-columns EndTrack h = refl
-no-columns (Tempo a) h = absurd (miss columnless 14 tt h)
-no-columns (SmpteOffset a b c d e) h = absurd (miss columnless 15 tt h)
-no-columns (TimeSignature a b c d) h = absurd (miss columnless 16 tt h)
-no-columns (KeySignature a b) h = absurd (miss columnless 17 tt h)
-no-columns (SequencerSpecific a b) h = refl
-no-columns (UnknownMeta t a b) h = absurd (miss columnless 19 tt h)
+tag-count (NoteOff a b c) = refl
+tag-count (NoteOn a b c) = refl
+tag-count (PolyAftertouch a b c) = refl
+tag-count (Control a b c) = refl
+tag-count (Program a b) = refl
+tag-count (ChannelAftertouch a b) = refl
+tag-count (PitchBend a b) = refl
+tag-count (SystemExclusive a b) = refl
+tag-count (SystemExclusivePacket a b) = refl
+tag-count (SequenceNumber a) = refl
+tag-count (Text t a b) = refl
+tag-count (ChannelPrefix a) = refl
+tag-count (MidiPort a) = refl
+tag-count EndTrack = refl
+tag-count (Tempo a) = refl
+tag-count (SmpteOffset a b c d e) = refl
+tag-count (TimeSignature a b c d) = refl
+tag-count (KeySignature a b) = refl
+tag-count (SequencerSpecific a b) = refl
+tag-count (UnknownMeta t a b) = refl
+
+abbrev allOf : (ℕ → Bool) → List ℕ → Bool
+allOf p [] = true
+allOf p (t ∷ ts) = p t && allOf p ts
+
+one-of : (p : ℕ → Bool) (ts : List ℕ) (t : ℕ) → allOf p ts ≡ true → OneOf ts t → p t ≡ true
+one-of p [] t e h = absurd h
+one-of p (x ∷ []) t e h = ap p h ∙ and-both (p x) true e .0
+one-of p (x ∷ y ∷ ts) t e (inl h) = ap p h ∙ and-both (p x) _ e .0
+one-of p (x ∷ y ∷ ts) t e (inr h) = one-of p (y ∷ ts) t (and-both (p x) _ e .1) h
+
+-- a tag with at most n columns, or more than m
+abbrev Fewer : ℕ → ℕ → ℕ → Bool
+Fewer n m t = leb (getD columnCounts t 0) n || ltb m (getD columnCounts t 0)
+
+fewer : (n m : ℕ) (ts : List ℕ) (k : EventKind) → allOf (Fewer n m) ts ≡ true → OneOf ts (tagOf the-type k) → columnCount k ≤ m → columnCount k ≤ n
+fewer n m ts k e h most =
+    let told : (leb (columnCount k) n || ltb m (columnCount k)) ≡ true = ap (λ c. leb c n || ltb m c) (tag-count k) ∙ one-of (Fewer n m) ts (tagOf the-type k) e h in
+    or-cases (leb (columnCount k) n) (ltb m (columnCount k)) told (λ t. leb-true (columnCount k) n t) (λ t. absurd (omega (arith, ltb-true m (columnCount k) t)))
+
+abbrev notLong : List ℕ
+notLong = 0 ∷ 1 ∷ 2 ∷ 3 ∷ 4 ∷ 5 ∷ 6 ∷ 7 ∷ 8 ∷ 9 ∷ 10 ∷ 11 ∷ 12 ∷ 13 ∷ 14 ∷ 17 ∷ 18 ∷ 19 ∷ []
+
+pub three-columns : (k : EventKind) → OneOf notLong (tagOf the-type k) → columnCount k ≤ 3
+three-columns k h = fewer 3 (columnCount k) notLong k refl h (omega arith)
+
+abbrev notThree : List ℕ
+notThree = 4 ∷ 5 ∷ 6 ∷ 7 ∷ 8 ∷ 9 ∷ 10 ∷ 11 ∷ 12 ∷ 13 ∷ 14 ∷ 15 ∷ 16 ∷ 17 ∷ 18 ∷ 19 ∷ []
+
+pub few-columns : (k : EventKind) → OneOf notThree (tagOf the-type k) → columnCount k ≤ 3 → columnCount k ≤ 2
+few-columns k h most = fewer 2 3 notThree k refl h most
+
+abbrev notFew : List ℕ
+notFew = 0 ∷ 1 ∷ 2 ∷ 3 ∷ 7 ∷ 8 ∷ 10 ∷ 13 ∷ 15 ∷ 16 ∷ 18 ∷ []
+
+pub no-columns : (k : EventKind) → OneOf notFew (tagOf the-type k) → columnCount k ≤ 2 → columnFields (kindFrom [] k) ≡ []
+no-columns k h most = drop-of-length-le (columnFields (kindFrom [] k)) (fewer 0 2 notFew k refl h most)
 
 abbrev bodiless : List ℕ
 bodiless = 0 ∷ 1 ∷ 2 ∷ 3 ∷ 4 ∷ 5 ∷ 6 ∷ 9 ∷ 11 ∷ 12 ∷ 13 ∷ 14 ∷ 15 ∷ 16 ∷ 17 ∷ []

@@ -1,5 +1,5 @@
 -- A file's own events and tracks as lines: the turns of the loops over them, and the text of the whole.
-use mathlib.Core.Path.{_≡_, refl, sym, ap, ap₂, _∙_}
+use mathlib.Core.Path.{_≡_, sym, ap, ap₂, _∙_}
 use Prim.Native.Nat.{ℕ, suc, _+_, _-_, _*_, _≤_}
 use mathlib.Core.List.{List, [], _∷_, _++_, append-assoc}
 use native.Mathlib.Omega.{arith}
@@ -7,22 +7,20 @@ use native.Mathlib.Numerals.{add-one}
 use lib.ListN.{length, take, drop, length-append}
 use Rattle.event.specs.Bytes.{Bytes}
 use Rattle.event.specs.Event.{Event}
-use Rattle.event.specs.Outcome.{Outcome, ok, refused, Readable, valueOr}
+use Rattle.event.specs.Outcome.{Readable, valueOr}
 use Rattle.event.specs.declared.Time.{Time}
 use Rattle.event.specs.declared.EventKind.{EventKind}
-use Rattle.event.proofs.BytesLaws.{bytes-drop}
-use Rattle.event.proofs.OutcomeLaws.{check-ok}
 use Rattle.event_write.proofs.WriteLaws.{Remains}
 use Rattle.smf.specs.Layout.{layTracks}
-use Rattle.smf.specs.Reader.{readAll, readHeader, readFile}
+use Rattle.smf.specs.Reader.{readAll, readHeader}
 use Rattle.smf.specs.PieceRead.{pieceRead}
 use Rattle.smf.specs.Step.{headerStep}
 use Rattle.smf.specs.declared.Division.{Division}
 use Rattle.smf.specs.declared.HeaderStep.the-variants.{Fields}
-use Rattle.smf.proofs.TrackLaws.{events-sound}
-use Rattle.smf.proofs.FileLaws.{tracks-sound, piece-sound}
+use Rattle.smf.proofs.FileLaws.{file-sound}
 use Rattle.smf.proofs.ListLaws.{R, none-left, Accepted}
-use Rattle.smf.proofs.TurnLaws.{A, Came, TrackTurn}
+use Rattle.smf.proofs.CameLaws.{Came}
+use Rattle.smf.proofs.TurnLaws.{A, events-laid, TrackTurn, tracks-laid}
 use Rattle.smf.proofs.AcceptedLaws.{headed}
 use Rattle.midicsv.specs.Table.{start-track, end-of-file}
 use Rattle.midicsv.specs.Record.{Record, recordLine}
@@ -39,7 +37,7 @@ lines-cons r rs = sym (append-assoc (recordLine r) (10 ∷ []) (recordsText rs))
 abbrev pub EventsLeft : ℕ → List ℕ → ℕ → ℕ → ℕ → List ℕ
 EventsLeft track s at t f = recordsText (eventRecords track (valueOr [] (A s at t f)))
 
-module _ (track : ℕ) (s : List ℕ) (at t f : ℕ) (u : Time) (k : EventKind) (q st : ℕ) (c : Came s at t f u k q st) where
+module _ (track : ℕ) {s : List ℕ} {at t f : ℕ} {u : Time} {k : EventKind} {q st : ℕ} (c : Came s at t f u k q st) where
   same-event : c .event ≡ eventFrom u s k
   same-event = ap₂ (λ x y. record { time = x; kind = y }) (c .time) (sym (c .there))
 
@@ -55,16 +53,10 @@ module _ (track : ℕ) (s : List ℕ) (at t f : ℕ) (u : Time) (k : EventKind) 
   unfolding eventRecords
   last-line all = ap (λ z. recordsText (eventRecords track z)) all ∙ ap (λ e. line (eventRecord track e)) same-event
 
-events-value : (track : ℕ) (s : List ℕ) (at t f : ℕ) (x : Outcome (List Event)) → track ≤ 65535 → Bytes s → A s at t f ≡ x → Readable x
-    → length (recordsText (eventRecords track (valueOr [] x))) ≤ 25 * length (drop at s)
-unfolding Readable valueOr readAll
-events-value track s at t f (ok es r) h bs e g =
-    let laid = events-sound (suc (length (drop at s))) at t f (drop at s) es r (bytes-drop s at bs) e in
-    rw (laid .bytes) (events-bound track t f es (laid .spelling) h (laid .lawful) (laid .permitted))
-events-value track s at t f (refused n p) h bs e g = absurd g
-
 pub events-few : (track : ℕ) (s : List ℕ) (at t f : ℕ) → track ≤ 65535 → Bytes s → Readable (A s at t f) → length (EventsLeft track s at t f) ≤ 25 * length (drop at s)
-events-few track s at t f h bs g = events-value track s at t f (A s at t f) h bs refl g
+events-few track s at t f h bs g =
+    let laid = events-laid s at t f bs g in
+    omega (arith, ap length (laid .bytes), events-bound track t f (valueOr [] (A s at t f)) (laid .spelling) h (laid .lawful) (laid .permitted))
 
 -- ---- the loop over the tracks: so many from the place at on, the first of them numbered n
 
@@ -82,16 +74,11 @@ pub no-tracks-left : (n : ℕ) (s : List ℕ) (left at : ℕ) → left ≤ 0 →
 unfolding trackRecords recordsText
 no-tracks-left n s left at h = ap (λ z. recordsText (trackRecords n z)) (none-left s left at h)
 
-tracks-value : (n : ℕ) (s : List ℕ) (left at : ℕ) (x : Outcome (List (List Event))) → n + left ≤ 65536 → Bytes s → R s left at ≡ x → Readable x
-    → length (recordsText (trackRecords n (valueOr [] x))) ≤ 25 * length (drop at s)
-unfolding Readable valueOr
-tracks-value n s left at (ok ts r) h bs e g =
-    let laid = tracks-sound left at (drop at s) ts r (bytes-drop s at bs) e in
-    omega (arith, ap length (laid .bytes), length-append (layTracks ts (laid .spelling)) r, tracks-bound n ts (laid .spelling) (omega (arith, laid .count)) (laid .lawful) (laid .permitted))
-tracks-value n s left at (refused k p) h bs e g = absurd g
-
 pub tracks-few : (n : ℕ) (s : List ℕ) (left at : ℕ) → n + left ≤ 65536 → Bytes s → Readable (R s left at) → length (TracksLeft n s left at) ≤ 25 * length (drop at s)
-tracks-few n s left at h bs g = tracks-value n s left at (R s left at) h bs refl g
+tracks-few n s left at h bs g =
+    let (r, laid) = tracks-laid s left at bs g in
+    let ts : List (List Event) = valueOr [] (R s left at) in
+    omega (arith, ap length (laid .bytes), length-append (layTracks ts (laid .spelling)) r, tracks-bound n ts (laid .spelling) (omega (arith, laid .count)) (laid .lawful) (laid .permitted))
 
 -- before the track so numbered, with left tracks to come
 pub record TracksGoing (s : List ℕ) (count first from : ℕ) (old out : List ℕ) (next at track : ℕ) : Type 0 where
@@ -120,7 +107,6 @@ text-lines s a b d n bs e there =
     ∙ ap₂ (λ x y. line x ++ y) same (texts-append (trackRecords 1 (p .tracks)) (mark end-of-file 0 ∷ []) ∙ ap (λ z. z ++ line (mark end-of-file 0)) tracks)
 
 pub tracks-counted : (s : List ℕ) (b n : ℕ) → Bytes s → Accepted s b n → b ≤ 65535
-unfolding readFile
 tracks-counted s b n bs there =
-    let laid = piece-sound s (there .piece) (there .rest) bs (check-ok _ 1 0 _ _ _ (there .read) .1) in
+    let (laid, short) = file-sound s (there .piece) (there .rest) bs (there .read) in
     omega (arith, there .count, laid .laid .has .lawful .few)

@@ -1,6 +1,7 @@
 -- What the writers of a record's parts write, of an event as the event side answers it: kind and fields, and the track's body with its data.
 use mathlib.Core.List.{List, [], _∷_}
 use Prim.Native.Nat.{ℕ}
+use lib.ListN.{length}
 use Rattle.event.specs.Event.{Event, Kind}
 use Rattle.event.specs.Step.{kindFrom}
 use Rattle.event.specs.declared.Time.{Time}
@@ -20,6 +21,10 @@ columnFields k = fieldsOf (eventShape (nameOf k) .columns) none (valuesOf k .col
 
 abbrev pub bodyFields : Kind → List Field
 bodyFields k = tailFields (eventShape (nameOf k) .tail) (valuesOf k .body)
+
+-- how many columns the record of an event has
+abbrev pub columnCount : EventKind → ℕ
+columnCount k = length (columnFields (kindFrom [] k))
 
 -- a record's line with its LF
 abbrev pub line : Record → List ℕ

@@ -8,7 +8,7 @@ ghost use Rattle.midicsv.specs.Field.{decimal, num, joined, further};
 ghost use Rattle.midicsv.specs.Table.{key, mode, start-track, end-of-file};
 ghost use Rattle.midicsv.specs.Record.{columnField};
 ghost use Rattle.midicsv.specs.Text.{mark, eventRecord};
-ghost use Rattle.midicsv_write.specs.Line.{eventFrom, columnFields, bodyFields, line, headerFor};
+ghost use Rattle.midicsv_write.specs.Line.{eventFrom, columnFields, columnCount, bodyFields, line, headerFor};
 use event::EventKind;
 use event::Time;
 use event_write::bytes::put_byte;
@@ -66,9 +66,46 @@ fn put_four_fields(out: &mut [u8], at: usize, a: u32, b: u32, c: u32, d: u32) ->
     put_three_fields(out, p, b, c, d)
 }
 
-// The columns of an event's record; data play no part in them.
-fn put_columns(out: &mut [u8], at: usize, kind: EventKind) -> usize
-    requires { ⌜ at < 2 ^ 42 ⌝ }
+// The columns of an event's record, of which there are at most two; data play no part in them.
+fn put_few_columns(out: &mut [u8], at: usize, kind: EventKind) -> usize
+    requires { ⌜ at < 2 ^ 42 ⌝ ∗ ⌜ columnCount kind ≤ 2 ⌝ }
+    ensures { λ r. ⌜ Written (now (out .entry)) at (further (columnFields (kindFrom [] kind))) (now (out .exit)) r ⌝ }
+{
+    match kind {
+        EventKind::Program { channel, number } => put_two_fields(
+            out,
+            at,
+            channel as u32,
+            number as u32,
+        ),
+        EventKind::ChannelAftertouch { channel, value } => put_two_fields(
+            out,
+            at,
+            channel as u32,
+            value as u32,
+        ),
+        EventKind::PitchBend { channel, value } => put_two_fields(
+            out,
+            at,
+            channel as u32,
+            value as u32,
+        ),
+        EventKind::SequenceNumber { number } => put_number_field(out, at, number),
+        EventKind::ChannelPrefix { number } => put_number_field(out, at, number as u32),
+        EventKind::MidiPort { number } => put_number_field(out, at, number as u32),
+        EventKind::Tempo { micros } => put_number_field(out, at, micros),
+        EventKind::KeySignature { key, minor } => {
+            let p = put_key_field(out, at, key);
+            put_mode_field(out, p, minor)
+        }
+        EventKind::UnknownMeta { kind: t, .. } => put_number_field(out, at, t as u32),
+        _ => at,
+    }
+}
+
+// The same of at most three.
+fn put_three_columns(out: &mut [u8], at: usize, kind: EventKind) -> usize
+    requires { ⌜ at < 2 ^ 42 ⌝ ∗ ⌜ columnCount kind ≤ 3 ⌝ }
     ensures { λ r. ⌜ Written (now (out .entry)) at (further (columnFields (kindFrom [] kind))) (now (out .exit)) r ⌝ }
 {
     match kind {
@@ -92,28 +129,16 @@ fn put_columns(out: &mut [u8], at: usize, kind: EventKind) -> usize
             controller,
             value,
         } => put_three_fields(out, at, channel as u32, controller as u32, value as u32),
-        EventKind::Program { channel, number } => put_two_fields(
-            out,
-            at,
-            channel as u32,
-            number as u32,
-        ),
-        EventKind::ChannelAftertouch { channel, value } => put_two_fields(
-            out,
-            at,
-            channel as u32,
-            value as u32,
-        ),
-        EventKind::PitchBend { channel, value } => put_two_fields(
-            out,
-            at,
-            channel as u32,
-            value as u32,
-        ),
-        EventKind::SequenceNumber { number } => put_number_field(out, at, number),
-        EventKind::ChannelPrefix { number } => put_number_field(out, at, number as u32),
-        EventKind::MidiPort { number } => put_number_field(out, at, number as u32),
-        EventKind::Tempo { micros } => put_number_field(out, at, micros),
+        _ => put_few_columns(out, at, kind),
+    }
+}
+
+// The same of any event.
+fn put_columns(out: &mut [u8], at: usize, kind: EventKind) -> usize
+    requires { ⌜ at < 2 ^ 42 ⌝ }
+    ensures { λ r. ⌜ Written (now (out .entry)) at (further (columnFields (kindFrom [] kind))) (now (out .exit)) r ⌝ }
+{
+    match kind {
         EventKind::SmpteOffset {
             hour,
             minute,
@@ -144,12 +169,7 @@ fn put_columns(out: &mut [u8], at: usize, kind: EventKind) -> usize
             click as u32,
             notes as u32,
         ),
-        EventKind::KeySignature { key, minor } => {
-            let p = put_key_field(out, at, key);
-            put_mode_field(out, p, minor)
-        }
-        EventKind::UnknownMeta { kind: t, .. } => put_number_field(out, at, t as u32),
-        _ => at,
+        _ => put_three_columns(out, at, kind),
     }
 }
 

@@ -11,7 +11,6 @@ use Rattle.event.specs.Bytes.{Bytes}
 use Rattle.event.specs.Choice.{pick}
 use Rattle.event.specs.Outcome.{Outcome, ok, refused}
 use Rattle.event.proofs.ChoiceLaws.{by-test}
-use Rattle.event.proofs.OutcomeLaws.{check-ok}
 use Rattle.event.proofs.RefusalLaws.{Fair}
 use Rattle.smf.specs.Piece.{Piece}
 use Rattle.smf.specs.Layout.{LaidOut}
@@ -21,7 +20,7 @@ use Rattle.smf.specs.Writing.{writeAnswer, writeLeaves}
 use Rattle.smf.specs.Answer.{success, refusal, roomNeeded, verdict}
 use Rattle.smf.proofs.DemandLaws.{laid-read}
 use Rattle.smf.proofs.MannerLaws.{manner-laid}
-use Rattle.smf.proofs.FileLaws.{piece-sound}
+use Rattle.smf.proofs.FileLaws.{file-sound}
 use Rattle.smf.proofs.RefusalLaws.{file-fair}
 use Rattle.midicsv.specs.Text.{textOf}
 use Rattle.midicsv.specs.PieceOfText.{pieceOfText, textLimit}
@@ -98,8 +97,8 @@ file-kept f p old r new l k c =
 
 from-file-with : (f old : List ℕ) (r : ℕ) (x : Outcome Piece) → Bytes f → readFile f ≡ x → Fair (length f) x → r ≡ packed (textAnswer (length old) x) → numberOf r ≡ 0
     → (p : Piece) × LaidOut f p × (length f ≤ fileLimit)
-unfolding readFile textAnswer
-from-file-with f old r (ok p q) bs e fair c z = let (t, g) = check-ok _ 1 0 _ p q e in (p, piece-sound f p q bs g .laid, leb-true (length f) fileLimit t)
+unfolding textAnswer
+from-file-with f old r (ok p q) bs e fair c z = let (laid, short) = file-sound f p q bs e in (p, laid .laid, short)
 from-file-with f old r (refused n l) bs e fair c z = absurd (not-zero r (refusal n l) c (fair .0) z)
 
 -- ---- text to file to text

@@ -1,15 +1,12 @@
 -- A file that is accepted: its piece, and its header and tracks as the program reads them.
-use mathlib.Core.Path.{_≡_, refl, sym, ap, _∙_}
+use mathlib.Core.Path.{_≡_, sym, ap, _∙_}
 use Prim.Native.Nat.{ℕ, _≤_}
 use mathlib.Core.Bool.{Bool, true, false}
 use mathlib.Core.List.{List}
-use native.Mathlib.Omega.{arith}
 use lib.ListN.{length}
-use borrow.Author.Tests.{leb-true}
 use Rattle.event.specs.Bytes.{Bytes}
-use Rattle.event.specs.Outcome.{Outcome, ok, refused, andThen, check, Readable}
-use Rattle.event.proofs.OutcomeLaws.{check-ok}
-use Rattle.event.proofs.RefusalLaws.{Fair}
+use Rattle.event.specs.Outcome.{Outcome, ok, andThen, check, Readable}
+use Rattle.event.proofs.OutcomeLaws.{check-ok, readable-ok}
 use Rattle.smf.specs.Piece.{Piece}
 use Rattle.smf.specs.Reader.{readHeader, readPiece, fileLimit, readFile}
 use Rattle.smf.specs.Answer.{verdict}
@@ -18,7 +15,8 @@ use Rattle.smf.specs.Step.{headerStep}
 use Rattle.smf.specs.declared.Answer.{Answer}
 use Rattle.smf.specs.declared.Division.{Division}
 use Rattle.smf.specs.declared.HeaderStep.the-variants.{Fields, BadHeader}
-use Rattle.smf.proofs.RefusalLaws.{file-fair}
+use Rattle.smf.proofs.RefusalLaws.{judged-readable}
+use Rattle.smf.proofs.FileLaws.{file-sound}
 use Rattle.smf.proofs.VerdictLaws.{head-bad}
 use Rattle.smf.proofs.ListLaws.{Accepted, accepted-piece}
 use Rattle.smf.proofs.PieceReadLaws.{piece-is}
@@ -32,13 +30,8 @@ pub header-there : (s : List ℕ) (k p : ℕ) → headerStep (length s) (readHea
 unfolding readFile readPiece andThen Readable
 header-there s k p e h = rw (head-bad (length s) k p (readHeader s) e) at (readable-check _ 1 0 _ h)
 
-file-value : (s : List ℕ) (a b : ℕ) (d : Division) (n : ℕ) (m : Outcome Piece) → Bytes s → headerStep (length s) (readHeader s) ≡ Fields a b d n → readFile s ≡ m → Readable m → Accepted s b n
-unfolding Readable
-file-value s a b d n (ok p r) bs e q h = accepted-piece s a b d n p r bs e q
-file-value s a b d n (refused k z) bs e q h = absurd h
-
 pub file-accepted : (s : List ℕ) (a b : ℕ) (d : Division) (n : ℕ) → Bytes s → headerStep (length s) (readHeader s) ≡ Fields a b d n → Readable (readFile s) → Accepted s b n
-file-accepted s a b d n bs e h = file-value s a b d n (readFile s) bs e refl h
+file-accepted s a b d n bs e h = let (p, r, q) = readable-ok (readFile s) h in accepted-piece s a b d n p r bs e q
 
 read-piece : (s : List ℕ) (p : Piece) (r : List ℕ) → Bytes s → readFile s ≡ ok p r → pieceRead s ≡ p
 unfolding readFile
@@ -67,15 +60,10 @@ pub record AcceptedFile (s : List ℕ) : Type 0 where
   pub same : pieceRead s ≡ piece
   pub short : length s ≤ fileLimit
 
-with-verdict : (s : List ℕ) (x : Outcome Piece) → Bytes s → readFile s ≡ x → Fair (length s) x → verdict x .number ≡ 0 → AcceptedFile s
-unfolding verdict readFile
-with-verdict s (ok p r) bs e f z =
-    let (c, q) = check-ok _ 1 0 _ p r e in
-    record { piece = p; rest = r; read = e; same = piece-is s p r bs q; short = leb-true (length s) fileLimit c }
-with-verdict s (refused k w) bs e f z = absurd (omega arith)
-
 pub accepted-file : (s : List ℕ) (v : Answer) → Bytes s → v ≡ verdict (readFile s) → v .number ≡ 0 → AcceptedFile s
-accepted-file s v bs e z = with-verdict s (readFile s) bs refl (file-fair s bs) (ap (λ (w : Answer). w .number) (sym e) ∙ z)
+accepted-file s v bs e z =
+    let (p, r, q) = readable-ok (readFile s) (judged-readable s v bs e z) in
+    record { piece = p; rest = r; read = q; same = read-piece s p r bs q; short = file-sound s p r bs q .1 }
 
 pub file-readable : (s : List ℕ) → AcceptedFile s → Readable (readFile s)
 unfolding Readable

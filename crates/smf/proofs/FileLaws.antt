@@ -17,10 +17,10 @@ use Rattle.event.specs.Reader.{readNumber}
 use Rattle.event.proofs.ChoiceLaws.{or-cases, and-both}
 use Rattle.event.proofs.OutcomeLaws.{not-ok, ok-same, andThen-ok, andThen-eq, check-ok, check-eq}
 use Rattle.event.proofs.BytesLaws.{bytes-left, bytes-right, length-bigEndian, number-read, number-sound}
-use Rattle.smf.specs.Piece.{Division, Piece, LawfulEvents, LawfulTracks, LawfulDivision}
+use Rattle.smf.specs.Piece.{Division, Piece, Header, tracksFit, LawfulEvents, LawfulTracks, LawfulDivision, LawfulPiece}
 use Rattle.smf.specs.Spelling.{PieceSpelling, PermittedEvents, PermittedTracks, PermittedPiece}
 use Rattle.smf.specs.Layout.{headerTag, trackTag, layEvents, layTrack, layTracks, layDivision, layHeader, layPiece, ShortTracks, HasLayout, LaidOut}
-use Rattle.smf.specs.Reader.{readAll, readChunk, readTrack, readTracks, Header, countOk, divisionOk, readHeader, noMore, readPiece}
+use Rattle.smf.specs.Reader.{readAll, readChunk, readTrack, readTracks, countOk, divisionOk, readHeader, noMore, readPiece, fileLimit, readFile}
 use Rattle.smf.proofs.TrackLaws.{all-read, events-sound}
 
 -- ---- a track's chunk
@@ -155,16 +155,22 @@ tracks-sound (suc n) at l ts r bs e =
 
 -- ---- the header
 
+pub fit-yes : (format n : ℕ) → (format ≡ 0 → n ≡ 1) → tracksFit format n ≡ true
+unfolding tracksFit
+fit-yes zero n s = rw (eq-eqb n 1 (s refl))
+fit-yes (suc k) n s = rw (ne-eqb (suc k) 0 (λ e. omega arith))
+
+pub fit-is : (format n : ℕ) → tracksFit format n ≡ true → format ≡ 0 → n ≡ 1
+unfolding tracksFit
+fit-is format n e z = or-cases (not (eqb format 0)) (eqb n 1) e (λ t. absurd (eqb-false format 0 (not-true _ t) z)) (λ t. eqb-true n 1 t)
+
 count-yes : (format n : ℕ) → 1 ≤ n → (format ≡ 0 → n ≡ 1) → countOk format n ≡ true
 unfolding countOk
-count-yes zero n h s = rw (le-leb 1 n h, eq-eqb n 1 (s refl))
-count-yes (suc k) n h s = rw (le-leb 1 n h, ne-eqb (suc k) 0 (λ e. omega arith))
+count-yes format n h s = rw (le-leb 1 n h, fit-yes format n s)
 
 count-is : (format n : ℕ) → countOk format n ≡ true → (1 ≤ n) × (format ≡ 0 → n ≡ 1)
 unfolding countOk
-count-is format n e =
-    let (a, b) = and-both (leb 1 n) _ e in
-    (leb-true 1 n a, λ z. or-cases (not (eqb format 0)) (eqb n 1) b (λ t. absurd (eqb-false format 0 (not-true _ t) z)) (λ t. eqb-true n 1 t))
+count-is format n e = let (a, b) = and-both (leb 1 n) _ e in (leb-true 1 n a, fit-is format n b)
 
 division-yes : (d : Division) → LawfulDivision d → divisionOk (d .pulses) ≡ true
 unfolding divisionOk LawfulDivision
@@ -250,6 +256,19 @@ unfolding noMore
 more-sound at p q [] r e k = k refl (cc) (cc)
 more-sound at p q (b ∷ l) r e k = not-ok e
 
+-- a lawful header, and as many lawful tracks as it counts
+pub piece-lawful : (h : Header) (ts : List (List Event)) → LawfulHeader h → length ts ≡ h .count → LawfulTracks ts
+    → LawfulPiece (record { format = h .format; division = h .division; tracks = ts })
+piece-lawful h ts k count ls =
+    record {
+      format = k .format;
+      some = omega (arith, k .some);
+      few = omega (arith, k .few);
+      single = λ z. count ∙ k .single z;
+      division = k .division;
+      tracks = ls;
+    }
+
 pub record PieceLaid (f : List ℕ) (p : Piece) (r : List ℕ) : Type 0 where
   pub laid : LaidOut f p
   pub all : [] ≡ r
@@ -258,26 +277,12 @@ piece-laid : (f l m : List ℕ) (h : Header) (ts : List (List Event)) → Header
     → LaidOut f (record { format = h .format; division = h .division; tracks = ts })
 unfolding layPiece PermittedPiece
 piece-laid f l m h ts head laid mn =
-    let k = head .lawful in
     let count : length ts ≡ h .count = laid .count in
     let nil : layTracks ts (laid .spelling) ++ [] ≡ layTracks ts (laid .spelling) = append-nil _ in
     let tracks : l ≡ layTracks ts (laid .spelling) = cc (laid .bytes) in
     record {
       spelling = record { tracks = laid .spelling };
-      has =
-          record {
-            lawful =
-                record {
-                  format = k .format;
-                  some = omega (arith, k .some);
-                  few = omega (arith, k .few);
-                  single = λ z. count ∙ k .single z;
-                  division = k .division;
-                  tracks = laid .lawful;
-                };
-            permitted = laid .permitted;
-            short = laid .short;
-          };
+      has = record { lawful = piece-lawful h ts (head .lawful) count (laid .lawful); permitted = laid .permitted; short = laid .short };
       bytes = sym (head .bytes ∙ ap₂ (λ n t. layHeader (h .format) n (h .division) t) (sym count) tracks);
     }
 
@@ -290,3 +295,8 @@ piece-sound f p r bs e =
     more-sound _ _ p m r e6 (λ mn same rn.
     let laid = tracks-sound (h .count) _ l ts m (head .after) q6 in
     rw (← same) (record { laid = piece-laid f l m h ts head laid mn; all = rn }))))
+
+-- a file that is accepted: it was laid out, and is not too long
+pub file-sound : (f : List ℕ) (p : Piece) (r : List ℕ) → Bytes f → readFile f ≡ ok p r → PieceLaid f p r × (length f ≤ fileLimit)
+unfolding readFile
+file-sound f p r bs e = let (c, q) = check-ok _ 1 0 _ p r e in (piece-sound f p r bs q, leb-true (length f) fileLimit c)

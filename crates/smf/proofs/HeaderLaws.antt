@@ -1,6 +1,6 @@
 -- The header as the code reads it: one law for each of its answers.
 use mathlib.Core.Path.{_≡_, sym, ap, _∙_}
-use Prim.Native.Nat.{ℕ, _+_, _-_, _<_, _≤_}
+use Prim.Native.Nat.{ℕ, _+_, _<_, _≤_}
 use mathlib.Core.Bool.{true, false}
 use mathlib.Core.List.{List}
 use native.Mathlib.Omega.{arith}
@@ -16,6 +16,7 @@ use Rattle.event.proofs.BytesLaws.{number-at}
 use Rattle.event.proofs.PlaceLaws.{place-back}
 use Rattle.event.proofs.RowLaws.{take-from}
 use Rattle.smf.specs.Layout.{headerTag}
+use Rattle.smf.specs.Piece.{tracksFit}
 use Rattle.smf.specs.Reader.{countOk, divisionOk, readHeader}
 use Rattle.smf.specs.Step.{headerStep}
 use Rattle.smf.specs.declared.HeaderStep.{HeaderStep}
@@ -100,15 +101,15 @@ module _ (s : List ℕ) (h : 14 ≤ length s) where
 -- ---- its tests
 
 pub count-none : (format n : ℕ) → n ≡ 0 → false ≡ countOk format n
-unfolding countOk
+unfolding countOk tracksFit
 count-none format n e = rw e
 
 pub count-single : (format n : ℕ) → (n ≡ 0 → ⊥) → format ≡ 0 → eqb n 1 ≡ countOk format n
-unfolding countOk
+unfolding countOk tracksFit
 count-single format n h e = simp (e, le-leb 1 n (omega arith))
 
 pub count-many : (format n : ℕ) → (n ≡ 0 → ⊥) → (format ≡ 0 → ⊥) → true ≡ countOk format n
-unfolding countOk
+unfolding countOk tracksFit
 count-many format n h e = simp (ne-eqb format 0 e, le-leb 1 n (omega arith))
 
 pub division-none : (n : ℕ) → n ≡ 0 → false ≡ divisionOk n

@@ -6,6 +6,7 @@ pub mod Example
 pub mod RefusalLaws
 pub mod Slips
 pub mod HeaderLaws
+pub mod CameLaws
 pub mod WalkLaws
 pub mod ChunkLaws
 pub mod VerdictLaws

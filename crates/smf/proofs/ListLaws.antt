@@ -11,10 +11,9 @@ use borrow.Author.Tests.{le-leb, lt-leb}
 use Rattle.event.specs.Bytes.{Bytes}
 use Rattle.event.specs.Choice.{pick}
 use Rattle.event.specs.Event.{Event}
-use Rattle.event.specs.Outcome.{Outcome, ok, refused, andThen, Readable, valueOr}
+use Rattle.event.specs.Outcome.{Outcome, ok, andThen, Readable, valueOr}
 use Rattle.event.specs.declared.Time.{Time}
 use Rattle.event.proofs.OutcomeLaws.{ok-same, andThen-ok, check-ok, cons-readable, cons-value}
-use Rattle.event.proofs.RefusalLaws.{Fair}
 use Rattle.smf.specs.Piece.{Piece}
 use Rattle.smf.specs.Reader.{readTrack, readTracks, readHeader, readPiece, readFile}
 use Rattle.smf.specs.Answer.{success, roomNeeded, verdict}
@@ -22,12 +21,12 @@ use Rattle.smf.specs.Step.{headerStep, lastTime, trackStep}
 use Rattle.smf.specs.Listing.{endTimes, eventCounts, hasRoom, listAnswer, listLeaves}
 use Rattle.smf.specs.declared.Answer.{Answer}
 use Rattle.smf.specs.declared.Division.{Division}
-use Rattle.smf.specs.declared.HeaderStep.the-variants.{Fields, BadHeader}
+use Rattle.smf.specs.declared.HeaderStep.the-variants.{Fields}
 use Rattle.smf.specs.declared.TrackStep.the-variants.{Track, BadTrack}
 use Rattle.event.proofs.BytesLaws.{bytes-drop}
 use Rattle.event.proofs.PlaceLaws.{place-back}
 use Rattle.smf.proofs.FileLaws.{tracks-sound, more-sound}
-use Rattle.smf.proofs.RefusalLaws.{file-fair}
+use Rattle.smf.proofs.RefusalLaws.{judged-refused}
 use Rattle.smf.proofs.ChunkLaws.{track-bad, track-found}
 use Rattle.smf.proofs.VerdictLaws.{head-at}
 
@@ -80,14 +79,12 @@ list-none f s left at now i e h = rw (none-left s left at h, e) refl
 -- ---- the answers
 
 pub list-refused : (n m : ℕ) (x : Outcome Piece) (v : Answer) → v ≡ verdict x → (v .number ≡ 0 → ⊥) → v ≡ listAnswer n m x
-unfolding verdict listAnswer
-list-refused n m (ok p r) v e h = absurd (h (ap (λ (w : Answer). w .number) e))
-list-refused n m (refused k q) v e h = e
+unfolding listAnswer
+list-refused n m x v e h = judged-refused x v e h (λ k p q w. rw q w)
 
 pub refused-leaves : (f : List (List Event) → List ℕ) (n m : ℕ) (x : Outcome Piece) (v : Answer) (old : List ℕ) → v ≡ verdict x → (v .number ≡ 0 → ⊥) → old ≡ listLeaves f n m x old
-unfolding verdict listLeaves
-refused-leaves f n m (ok p r) v old e h = absurd (h (ap (λ (w : Answer). w .number) e))
-refused-leaves f n m (refused k q) v old e h = refl
+unfolding listLeaves
+refused-leaves f n m x v old e h = judged-refused x v e h (λ k p q w. rw q refl)
 
 -- ---- where the file is accepted
 
@@ -115,15 +112,6 @@ accepted-piece s a b d n p r bs e q =
     let laid = tracks-sound b n (drop n s) ts m (bytes-drop s n bs) tracks in
     let inPiece : p .tracks ≡ ts = ap (λ z. z .tracks) (sym same) in
     record { piece = p; rest = r; left = m; read = q; tracks = tracks ∙ ap (λ z. ok z m) (sym inPiece); count = ap length inPiece ∙ laid .count }))))
-
-accepted-verdict : (s : List ℕ) (a b : ℕ) (d : Division) (n : ℕ) (x : Outcome Piece) → Bytes s → headerStep (length s) (readHeader s) ≡ Fields a b d n → readFile s ≡ x → Fair (length s) x
-    → verdict x .number ≡ 0 → Accepted s b n
-unfolding verdict
-accepted-verdict s a b d n (ok p r) bs e q f z = accepted-piece s a b d n p r bs e q
-accepted-verdict s a b d n (refused k w) bs e q f z = absurd (omega arith)
-
-pub accepted : (s : List ℕ) (a b : ℕ) (d : Division) (n : ℕ) (v : Answer) → Bytes s → headerStep (length s) (readHeader s) ≡ Fields a b d n → v ≡ verdict (readFile s) → v .number ≡ 0 → Accepted s b n
-accepted s a b d n v bs e q z = accepted-verdict s a b d n (readFile s) bs e refl (file-fair s bs) (ap (λ (w : Answer). w .number) (sym q) ∙ z)
 
 module _ (s : List ℕ) (b n : ℕ) (there : Accepted s b n) where
   pub accepted-readable : Readable (R s b n)
@@ -181,14 +169,3 @@ room-second n m k h g = rw (le-leb k n h, lt-leb k m g)
 -- a store, and then the others
 pub sets-step : (l : List ℕ) (i x : ℕ) (xs : List ℕ) → sets (set l i x) (i + 1) xs ≡ sets l i (x ∷ xs)
 sets-step l i x xs = rw (add-one i) refl
-
-no-bad-header : (s : List ℕ) (k p : ℕ) (x : Outcome Piece) → headerStep (length s) (readHeader s) ≡ BadHeader k p → readFile s ≡ x → Fair (length s) x → verdict x .number ≡ 0 → ⊥
-unfolding verdict readFile readPiece headerStep
-no-bad-header s k p (ok q r) e come f z =
-    let (c0, q0) = check-ok _ 1 0 _ q r come in
-    andThen-ok (readHeader s) _ q r q0 (λ h l qh q1. let w : headerStep (length s) (ok h l) ≡ BadHeader k p = ap (headerStep (length s)) (sym qh) ∙ e in let z1 : _≡_ {A = ℕ} 0 1 = cc in omega arith)
-no-bad-header s k p (refused j w) e come f z = omega arith
-
--- an accepted file has a header
-pub header-there : (s : List ℕ) (k p : ℕ) (v : Answer) → Bytes s → headerStep (length s) (readHeader s) ≡ BadHeader k p → v ≡ verdict (readFile s) → v .number ≡ 0 → ⊥
-header-there s k p v bs e q z = no-bad-header s k p (readFile s) e refl (file-fair s bs) (ap (λ (w : Answer). w .number) (sym q) ∙ z)

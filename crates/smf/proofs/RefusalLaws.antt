@@ -1,5 +1,5 @@
 -- Every refusal of a file has a number that is not 0, and its place lies in the file.
-use mathlib.Core.Path.{_≡_, refl, ap, _∙_}
+use mathlib.Core.Path.{_≡_, refl, sym, ap, _∙_}
 use Prim.Native.Nat.{ℕ, zero, suc, _+_, _-_, _≤_}
 use mathlib.Core.Bool.{Bool, true, false}
 use mathlib.Core.List.{List, [], _∷_}
@@ -10,7 +10,7 @@ use borrow.Author.Tests.{leb-true}
 use Rattle.event.specs.Bytes.{Bytes}
 use Rattle.event.specs.Event.{Event, isEnd}
 use Rattle.event.specs.Frame.{frame, after, noStatus}
-use Rattle.event.specs.Outcome.{Outcome, ok, refused, check}
+use Rattle.event.specs.Outcome.{Outcome, ok, refused, check, Readable}
 use Rattle.event.specs.Reader.{readEvent}
 use Rattle.event.proofs.ChoiceLaws.{by-test}
 use Rattle.event.proofs.OutcomeLaws.{placed-ok}
@@ -20,7 +20,8 @@ use Rattle.event.proofs.RefusalLaws.{Fair, then-fair, check-fair, placed-fair, 
 use Rattle.smf.specs.Piece.{Piece}
 use Rattle.smf.specs.Layout.{layTrack}
 use Rattle.smf.specs.Reader.{ended, goOn, readEvents, readAll, readChunk, readTrack, readTracks, readHeader, noMore, readPiece, fileLimit, readFile}
-use Rattle.smf.specs.Answer.{verdict}
+use Rattle.smf.specs.Answer.{refusal, verdict}
+use Rattle.smf.specs.declared.Answer.{Answer}
 use Rattle.smf.proofs.FileLaws.{ChunkLaid, chunk-sound, track-sound, header-sound, header-size}
 
 go-fair : (m : ℕ) (b : Bool) (at : ℕ) (e : Event) (r : List ℕ) (k : Outcome (List Event)) → at ≤ m → Fair m k → Fair m (goOn b at e r k)
@@ -92,6 +93,23 @@ file-fair f bs =
     let laid = header-sound f h l bs q in
     let size : length f ≡ 14 + length l = ap length (laid .bytes) ∙ header-size (h .format) (h .count) (h .division) l in
     then-fair (length f) _ _ (tracks-fair (length f) (h .count) (length f - length l) l (laid .after) (omega arith)) (λ ts r e. more-fair (length f) _ _ r (omega arith))))
+
+-- ---- what a verdict says
+
+zero-readable : (m : ℕ) (x : Outcome Piece) → Fair m x → verdict x .number ≡ 0 → Readable x
+unfolding verdict Readable
+zero-readable m (ok p r) h z = tt
+zero-readable m (refused n q) h z = absurd (omega arith)
+
+-- with the number 0 the file is read
+pub judged-readable : (f : List ℕ) (v : Answer) → Bytes f → v ≡ verdict (readFile f) → v .number ≡ 0 → Readable (readFile f)
+judged-readable f v bs e z = zero-readable (length f) (readFile f) (file-fair f bs) (ap (λ (w : Answer). w .number) (sym e) ∙ z)
+
+-- with any other it is refused
+pub judged-refused : {X : Type 0} (x : Outcome Piece) (v : Answer) → v ≡ verdict x → (v .number ≡ 0 → ⊥) → ((k p : ℕ) → x ≡ refused k p → v ≡ refusal k p → X) → X
+unfolding verdict
+judged-refused (ok p r) v e h f = absurd (h (ap (λ (w : Answer). w .number) e))
+judged-refused (refused k q) v e h f = f k q refl e
 
 -- ---- what packing a verdict needs
 

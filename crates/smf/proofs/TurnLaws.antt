@@ -1,31 +1,28 @@
 -- A turn of a loop over a file's own events or tracks, for a file that is known to be accepted: what was read, what is left.
-use mathlib.Core.Path.{_≡_, refl, sym, ap, _∙_}
-use Prim.Native.Nat.{ℕ, zero, suc, _+_, _-_, _<_, _≤_}
+use mathlib.Core.Path.{_≡_, refl, sym, ap, subst, _∙_}
+use Prim.Native.Nat.{ℕ, zero, suc, _+_, _-_, _<_}
 use mathlib.Core.Bool.{true, false}
 use mathlib.Core.List.{List, [], _∷_}
 use native.Mathlib.Omega.{arith}
 use lib.ListN.{length, take, drop, length-drop}
 use Rattle.event.specs.Bytes.{Bytes}
-use Rattle.event.specs.Event.{Event, Lawful, isEnd}
-use Rattle.event.specs.Frame.{frame, after, noStatus}
-use Rattle.event.specs.Outcome.{Outcome, ok, refused, andThen, placed, Readable, valueOr}
+use Rattle.event.specs.Event.{Event}
+use Rattle.event.specs.Frame.{noStatus}
+use Rattle.event.specs.Outcome.{Outcome, ok, refused, andThen, Readable, valueOr}
 use Rattle.event.specs.Reader.{readEvent}
-use Rattle.event.specs.Spelling.{Spelling, Permitted}
-use Rattle.event.specs.Step.{kindAt, kindFrom, endOf, eventStep}
+use Rattle.event.specs.Step.{endOf, eventStep}
 use Rattle.event.specs.declared.Time.{Time}
 use Rattle.event.specs.declared.EventKind.{EventKind}
-use Rattle.event.specs.declared.EventStep.the-variants.{Read, Stop}
+use Rattle.event.specs.declared.EventStep.{EventStep}
+use Rattle.event.specs.declared.EventStep.the-variants.{Stop}
 use Rattle.event.proofs.BytesLaws.{bytes-drop, bytes-take}
-use Rattle.event.proofs.DataLaws.{kind-there}
-use Rattle.event.proofs.EventLaws.{event-sound}
-use Rattle.event.proofs.OutcomeLaws.{cons-readable, cons-value}
-use Rattle.event.proofs.PlaceLaws.{place-back}
-use Rattle.event.proofs.StepLaws.{end-of}
-use Rattle.smf.specs.Reader.{ended, goOn, readAll, readChunk, readTrack, readTracks}
+use Rattle.event.proofs.OutcomeLaws.{readable-ok, cons-readable, cons-value}
+use Rattle.smf.specs.Reader.{ended, readAll, readChunk, readTrack, readTracks}
 use Rattle.smf.specs.Step.{chunkStep}
 use Rattle.smf.specs.declared.ChunkStep.the-variants.{Body, BadChunk}
-use Rattle.smf.proofs.TrackLaws.{all-read, all-step, events-sound}
-use Rattle.smf.proofs.WalkLaws.{step-ok, step-bad}
+use Rattle.smf.proofs.TrackLaws.{all-read, EventsLaid, events-sound}
+use Rattle.smf.proofs.FileLaws.{TracksLaid, tracks-sound}
+use Rattle.smf.proofs.CameLaws.{Came, came-stop, came-next, came-end}
 use Rattle.smf.proofs.ChunkLaws.{chunk-bad, chunk-body}
 use Rattle.smf.proofs.ListLaws.{R}
 
@@ -34,81 +31,36 @@ use Rattle.smf.proofs.ListLaws.{R}
 abbrev pub A : List ℕ → ℕ → ℕ → ℕ → Outcome (List Event)
 A s at t f = readAll at t f (drop at s)
 
-pub turn-stop : (s : List ℕ) (at t f k : ℕ) → Bytes s → eventStep (length s) (readEvent t f (drop at s)) ≡ Stop k → Readable (A s at t f) → ⊥
-unfolding andThen placed Readable
-turn-stop s at t f k bs e h = let (z, q) = step-bad (length s) k _ e in rw (all-step at t f (drop at s) (bytes-drop s at bs), q) at h
+pub turn-stop : {x : EventStep} {k : ℕ} (s : List ℕ) (at t f : ℕ) → Bytes s → x ≡ eventStep (length s) (readEvent t f (drop at s)) → x ≡ Stop k → Readable (A s at t f) → ⊥
+unfolding Readable
+turn-stop s at t f bs e given h = rw (came-stop s at t f at bs e given) at h
 
 end-value : (at : ℕ) (e : Event) (r : List ℕ) → Readable (ended at e r) → valueOr [] (ended at e r) ≡ e ∷ []
 unfolding ended Readable valueOr
 end-value at e [] h = refl
 end-value at e (b ∷ r) h = absurd h
 
-module _ (s : List ℕ) (at t f : ℕ) (u : Time) (k : EventKind) (q st : ℕ) where
-  -- the event that was read by the answer of the event side
-  pub record Came : Type 0 where
-    pub event : Event
-    pub later : at < q
-    pub inside : q ≤ length s
-    pub time : event .time ≡ u .0
-    pub kind : kindAt q (event .kind) ≡ k
-    pub there : kindFrom s k ≡ event .kind
-    pub status : after (frame (event .kind)) ≡ st
-    pub lawful : Lawful t event
-    pub spelling : Spelling
-    pub permitted : Permitted t f event spelling
-    pub all : A s at t f ≡ goOn (isEnd (event .kind)) q event (drop q s) (A s q (u .0) st)
+-- the event, and then the events that are left
+module _ {s : List ℕ} {at t f : ℕ} {u : Time} {k : EventKind} {q st : ℕ} (bs : Bytes s) (c : Came s at t f u k q st) (good : Readable (A s at t f)) where
+  move : q ≡ at + (q - at)
+  move = omega (arith, c .later)
 
-  module _ (bs : Bytes s) (h : at ≤ length s) (given : eventStep (length s) (readEvent t f (drop at s)) ≡ Read u k q st) where
-    pub event-came : Came
-    unfolding andThen placed
-    event-came =
-        step-ok s at t f u k q st _ (bytes-drop s at bs) h refl given (λ e come lt le pt pk ps.
-        let laid = event-sound t f (drop at s) e (drop q s) (bytes-drop s at bs) come in
-        let time : e .time ≡ u .0 = ap (λ (z : Time). z .0) pt in
-        let there : kindFrom s k ≡ e .kind =
-        ap (kindFrom s) (sym pk ∙ ap (λ z. kindAt z (e .kind)) (sym (place-back s q le)))
-        ∙ kind-there t f e (laid .spelling) s (drop q s) at (laid .lawful) (laid .permitted) (laid .bytes) h
-        in
-        let next : at + (length (drop at s) - length (drop q s)) ≡ q = simp length-drop (omega arith) in
-        let all : A s at t f ≡ goOn (isEnd (e .kind)) q e (drop q s) (A s q (u .0) st) =
-        rw (all-step at t f (drop at s) (bytes-drop s at bs), come, next, ps, time) refl
-        in
-        record {
-          event = e;
-          later = lt;
-          inside = le;
-          time = time;
-          kind = pk;
-          there = there;
-          status = ps;
-          lawful = laid .lawful;
-          spelling = laid .spelling;
-          permitted = laid .permitted;
-          all = all;
-        })
+  pub turn-next : endOf k ≡ false → Readable (A s q (u .0) st) × (valueOr [] (A s at t f) ≡ c .event ∷ valueOr [] (A s q (u .0) st))
+  turn-next last =
+      let step = came-next bs c at q move last in
+      let rest : Readable (A s q (u .0) st) = cons-readable (c .event) (A s q (u .0) st) (rw step at good) in
+      (rest, ap (valueOr []) step ∙ cons-value (c .event) (A s q (u .0) st) rest)
 
-    pub turn-place : (at < q) × (q ≤ length s)
-    turn-place = (event-came .later, event-came .inside)
+  pub turn-end : endOf k ≡ true → valueOr [] (A s at t f) ≡ c .event ∷ []
+  turn-end last = let step = came-end bs c at q move last in ap (valueOr []) step ∙ end-value q (c .event) (drop q s) (rw step at good)
 
-    -- the event, and then the events that are left
-    module _ (good : Readable (A s at t f)) where
-      ends : endOf k ≡ isEnd (event-came .event .kind)
-      ends = ap endOf (sym (event-came .kind)) ∙ end-of q (event-came .event .kind)
-
-      pub turn-next : endOf k ≡ false → Readable (A s q (u .0) st) × (valueOr [] (A s at t f) ≡ event-came .event ∷ valueOr [] (A s q (u .0) st))
-      unfolding goOn
-      turn-next last =
-          let e = event-came .event in
-          let step : A s at t f ≡ andThen (A s q (u .0) st) (λ es r. ok (e ∷ es) r) = event-came .all ∙ ap (λ z. goOn z q e (drop q s) (A s q (u .0) st)) (sym ends ∙ last) in
-          let rest : Readable (A s q (u .0) st) = cons-readable e (A s q (u .0) st) (rw step at good) in
-          (rest, ap (valueOr []) step ∙ cons-value e (A s q (u .0) st) rest)
-
-      pub turn-end : endOf k ≡ true → valueOr [] (A s at t f) ≡ event-came .event ∷ []
-      unfolding goOn
-      turn-end last =
-          let e = event-came .event in
-          let step : A s at t f ≡ ended q e (drop q s) = event-came .all ∙ ap (λ z. goOn z q e (drop q s) (A s q (u .0) st)) (sym ends ∙ last) in
-          ap (valueOr []) step ∙ end-value q e (drop q s) (rw step at good)
+-- they were laid out so
+pub events-laid : (s : List ℕ) (at t f : ℕ) → Bytes s → Readable (A s at t f) → EventsLaid t f (drop at s) (valueOr [] (A s at t f)) []
+unfolding readAll valueOr
+events-laid s at t f bs h =
+    let (es, r, e) = readable-ok (A s at t f) h in
+    let laid = events-sound (suc (length (drop at s))) at t f (drop at s) es r (bytes-drop s at bs) e in
+    rw e (subst (λ z. EventsLaid t f (drop at s) es z) (sym (laid .all)) laid)
 
 -- ---- tracks: so many from the place at on
 
@@ -116,6 +68,13 @@ pub tracks-stop : (s : List ℕ) (left at k p : ℕ) → 0 < left → chunkStep 
 unfolding readTracks readTrack andThen Readable
 tracks-stop s zero at k p z e h = omega arith
 tracks-stop s (suc n) at k p z e h = rw (chunk-bad (length s) k p (readChunk at (drop at s)) e) at h
+
+-- they were laid out so
+pub tracks-laid : (s : List ℕ) (left at : ℕ) → Bytes s → Readable (R s left at) → (r : List ℕ) × TracksLaid left (drop at s) (valueOr [] (R s left at)) r
+unfolding valueOr
+tracks-laid s left at bs h =
+    let (ts, r, e) = readable-ok (R s left at) h in
+    (r, subst (λ z. TracksLaid left (drop at s) (valueOr [] z) r) (sym e) (tracks-sound left at (drop at s) ts r (bytes-drop s at bs) e))
 
 -- the events of a body are the same wherever it stands
 anywhere : (base prev force : ℕ) (l : List ℕ) (es : List Event) (q : List ℕ) → Bytes l → readAll base prev force l ≡ ok es q → readAll 0 prev force l ≡ ok es []

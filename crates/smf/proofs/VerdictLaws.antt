@@ -12,9 +12,9 @@ use Rattle.event.specs.Outcome.{Outcome, ok, refused, andThen, check}
 use Rattle.event.proofs.OutcomeLaws.{check-eq}
 use Rattle.event.proofs.BytesLaws.{bytes-drop}
 use Rattle.event.proofs.PlaceLaws.{place, place-back}
-use Rattle.smf.specs.Piece.{Piece}
+use Rattle.smf.specs.Piece.{Piece, Header}
 use Rattle.smf.specs.Layout.{layTracks}
-use Rattle.smf.specs.Reader.{Header, readHeader, readTracks, noMore, readPiece, fileLimit, readFile}
+use Rattle.smf.specs.Reader.{readHeader, readTracks, noMore, readPiece, fileLimit, readFile}
 use Rattle.smf.specs.Answer.{refusal, success, verdict}
 use Rattle.smf.specs.Step.{headerStep, tracksStep}
 use Rattle.smf.specs.declared.Division.{Division}

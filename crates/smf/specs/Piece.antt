@@ -2,9 +2,10 @@
 -- last event is End_track."
 use mathlib.Core.Path.{_≡_}
 use Prim.Native.Nat.{ℕ, _≤_}
-use mathlib.Core.Bool.{Bool, true, false}
+use mathlib.Core.Bool.{Bool, true, false, not, _||_}
 use mathlib.Core.List.{List, [], _∷_}
 use lib.ListN.{length}
+use lib.Dec.{eqb}
 use Rattle.event.specs.Event.{Event, Lawful, isEnd}
 
 -- pulses per quarter note
@@ -15,6 +16,16 @@ pub record Piece : Type 0 where
   pub format : ℕ
   pub division : Division
   pub tracks : List (List Event)
+
+-- what a header says, that of a file and the Header record of a text: format, number of tracks, division
+pub record Header : Type 0 where
+  pub format : ℕ
+  pub count : ℕ
+  pub division : Division
+
+-- "1 for format 0": a format and a number of tracks
+unfoldable pub tracksFit : ℕ → ℕ → Bool
+tracksFit format n = not (eqb format 0) || eqb n 1
 
 -- after End_track there is no event, after any other the rest is lawful
 unfoldable pub Ends : Bool → List Event → Type 0 → Type 0

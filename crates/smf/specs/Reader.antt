@@ -1,6 +1,6 @@
 -- Reading a file, with the refusals of document 01, their places and their order.
 use Prim.Native.Nat.{ℕ, zero, suc, _+_, _-_}
-use mathlib.Core.Bool.{Bool, true, false, not, _&&_, _||_}
+use mathlib.Core.Bool.{Bool, true, false, _&&_}
 use mathlib.Core.List.{List, [], _∷_}
 use lib.ListN.{length, take, drop}
 use lib.Dec.{leb, eqb}
@@ -8,7 +8,7 @@ use Rattle.event.specs.Outcome.{Outcome, ok, refused, andThen, check, placed}
 use Rattle.event.specs.Event.{Event, isEnd}
 use Rattle.event.specs.Frame.{frame, after, noStatus}
 use Rattle.event.specs.Reader.{readNumber, readEvent}
-use Rattle.smf.specs.Piece.{Division, Piece}
+use Rattle.smf.specs.Piece.{Piece, Header, tracksFit}
 use Rattle.smf.specs.Layout.{headerTag, trackTag}
 
 -- ---- the events of a track
@@ -63,14 +63,9 @@ readTracks (suc n) at l =
 
 -- ---- the header: "under 14", then "header tag, length, format, count, division, in that order"
 
-pub record Header : Type 0 where
-  pub format : ℕ
-  pub count : ℕ
-  pub division : Division
-
 -- "track count 1..65535 (1 for format 0)"; two bytes hold no more than 65535
 unfoldable pub countOk : ℕ → ℕ → Bool
-countOk format n = leb 1 n && (not (eqb format 0) || eqb n 1)
+countOk format n = leb 1 n && tracksFit format n
 
 unfoldable pub divisionOk : ℕ → Bool
 divisionOk n = leb 1 n && leb n 32767

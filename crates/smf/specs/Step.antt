@@ -5,7 +5,7 @@ use mathlib.Core.List.{List, [], _∷_}
 use lib.ListN.{length}
 use Rattle.event.specs.Event.{Event}
 use Rattle.event.specs.Outcome.{Outcome, ok, refused}
-use Rattle.smf.specs.Reader.{Header}
+use Rattle.smf.specs.Piece.{Header}
 use Rattle.smf.specs.declared.HeaderStep.{HeaderStep}
 use Rattle.smf.specs.declared.HeaderStep.the-variants.{Fields, BadHeader}
 use Rattle.smf.specs.declared.ChunkStep.{ChunkStep}

@@ -1,6 +1,6 @@
 -- Writing a file's own tracks and the whole file again, and the answers of tidying.
 use mathlib.Core.Path.{_≡_, refl, sym, ap, ap₂, subst, _∙_}
-use Prim.Native.Nat.{ℕ, _+_, _-_, _*_, _<_, _≤_}
+use Prim.Native.Nat.{ℕ, _-_, _*_, _<_, _≤_}
 use mathlib.Core.List.{List, [], _++_}
 use native.Mathlib.Omega.{arith}
 use lib.ListN.{length, take, drop, length-append}
@@ -8,10 +8,8 @@ use lib.Seq.{sets}
 use borrow.Author.Tests.{le-leb, lt-leb}
 use Rattle.event.specs.Choice.{pick}
 use Rattle.event.specs.Bytes.{Bytes, bigEndian}
-use Rattle.event.specs.Event.{Event}
 use Rattle.event.specs.Manner.{Manner, short}
-use Rattle.event.specs.Outcome.{Outcome, ok, refused, Readable, valueOr}
-use Rattle.event.proofs.BytesLaws.{bytes-drop}
+use Rattle.event.specs.Outcome.{Outcome, Readable, valueOr}
 use Rattle.event_write.specs.Written.{Written}
 use Rattle.event_write.proofs.WriteLaws.{put-whole, then, after-measure, measured}
 use Rattle.smf.specs.Piece.{Piece}
@@ -24,10 +22,10 @@ use Rattle.smf.specs.Step.{headerStep}
 use Rattle.smf.specs.declared.Answer.{Answer}
 use Rattle.smf.specs.declared.Division.{Division}
 use Rattle.smf.specs.declared.HeaderStep.the-variants.{Fields}
-use Rattle.smf.proofs.FileLaws.{tracks-sound}
+use Rattle.smf.proofs.RefusalLaws.{judged-refused}
 use Rattle.smf.proofs.MannerLaws.{manner-tracks}
 use Rattle.smf.proofs.ListLaws.{R, none-left, Accepted}
-use Rattle.smf.proofs.TurnLaws.{TrackTurn}
+use Rattle.smf.proofs.TurnLaws.{TrackTurn, tracks-laid}
 use Rattle.smf.proofs.AcceptedLaws.{headed, AcceptedFile}
 use Rattle.smf.specs.Writing.{writeAnswer, writeLeaves}
 use Rattle.smf_write.specs.Tidy.{tidyAnswer, tidyLeaves, trackIn, tracksIn}
@@ -46,15 +44,10 @@ pub no-tracks-left : (m : Manner) (s : List ℕ) (left at : ℕ) → left ≤ 0 
 unfolding layTracks
 no-tracks-left m s left at h = ap (tracksIn m) (none-left s left at h)
 
-tracks-value : (m : Manner) (s : List ℕ) (left at : ℕ) (x : Outcome (List (List Event))) → Bytes s → R s left at ≡ x → Readable x → length (tracksIn m (valueOr [] x)) ≤ 2 * length (drop at s)
-unfolding Readable valueOr
-tracks-value m s left at (ok ts r) bs e g =
-    let laid = tracks-sound left at (drop at s) ts r (bytes-drop s at bs) e in
-    omega (arith, ap length (laid .bytes), length-append (layTracks ts (laid .spelling)) r, manner-tracks m ts (laid .spelling) (laid .permitted))
-tracks-value m s left at (refused n p) bs e g = absurd g
-
 pub tracks-small : (m : Manner) (s : List ℕ) (left at : ℕ) → Bytes s → Readable (R s left at) → length (TracksLeft m s left at) ≤ 2 * length (drop at s)
-tracks-small m s left at bs h = tracks-value m s left at (R s left at) bs refl h
+tracks-small m s left at bs h =
+    let (r, laid) = tracks-laid s left at bs h in
+    omega (arith, ap length (laid .bytes), length-append (layTracks (valueOr [] (R s left at)) (laid .spelling)) r, manner-tracks m (valueOr [] (R s left at)) (laid .spelling) (laid .permitted))
 
 -- ---- the whole file
 
@@ -72,15 +65,9 @@ file-bytes m s a b d n bs e there =
 
 -- ---- the answers of tidying
 
-pub tidy-refused : (room : ℕ) (x : Outcome Piece) (v : Answer) → v ≡ verdict x → (v .number ≡ 0 → ⊥) → v ≡ tidyAnswer room x
-unfolding verdict tidyAnswer
-tidy-refused room (ok p r) v e h = absurd (h (ap (λ (w : Answer). w .number) e))
-tidy-refused room (refused k q) v e h = e
-
-pub refused-leaves : (x : Outcome Piece) (v : Answer) (old : List ℕ) → v ≡ verdict x → (v .number ≡ 0 → ⊥) → old ≡ tidyLeaves x old
-unfolding verdict tidyLeaves
-refused-leaves (ok p r) v old e h = absurd (h (ap (λ (w : Answer). w .number) e))
-refused-leaves (refused k q) v old e h = refl
+pub tidy-refused : (x : Outcome Piece) (v : Answer) (old : List ℕ) → v ≡ verdict x → (v .number ≡ 0 → ⊥) → (v ≡ tidyAnswer (length old) x) × (old ≡ tidyLeaves x old)
+unfolding tidyAnswer tidyLeaves
+tidy-refused x v old e h = judged-refused x v e h (λ k p q w. (rw q w, rw q refl))
 
 module _ (s : List ℕ) (there : AcceptedFile s) where
   abbrev Out : List ℕ

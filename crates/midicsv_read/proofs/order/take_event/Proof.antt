@@ -1,7 +1,8 @@
 use mathlib.Core.List.{[]}
 use Rattle.event_write.specs.Head.{mannerOf}
 use Rattle.midicsv_record.specs.Row.{recordIn}
-use Rattle.midicsv_read.proofs.TakeEventLaws.{event-name, since-before, since-after, event-phase, event-track, event-falls, event-far}
+use Rattle.event.proofs.DatesLaws.{since-before, since-after}
+use Rattle.midicsv_read.proofs.TakeEventLaws.{event-name, event-phase, event-track, event-falls, event-far}
 use mathlib.Core.Path.{sym, _∙_}
 use borrow.Author.Needs.{needs}
 use Rattle.midicsv_read.proofs.order.take_event.Statement.{statement}

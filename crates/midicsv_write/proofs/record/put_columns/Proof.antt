@@ -1,9 +1,9 @@
-use Rattle.event_write.proofs.WriteLaws.{then, nothing}
+use Rattle.event_write.proofs.WriteLaws.{then}
 use Rattle.event.specs.Step.{kindFrom}
-use Rattle.midicsv.specs.Field.{num, further}
-use Rattle.midicsv.specs.Table.{mode, eventShape}
+use Rattle.midicsv.specs.Field.{further}
+use Rattle.midicsv.specs.Table.{eventShape}
 use Rattle.midicsv.specs.Record.{columnField, tailFields, fieldsOf, nameOf, valuesOf}
-use Rattle.midicsv_write.proofs.LineLaws.{last-field, number-length, key-length, key-fields, no-columns}
+use Rattle.midicsv_write.proofs.LineLaws.{number-length, three-columns}
 use native.Mathlib.Omega.{arith}
 use borrow.Author.Needs.{needs}
 use Rattle.midicsv_write.proofs.record.put_columns.Statement.{statement}
@@ -12,137 +12,11 @@ use Rattle.midicsv_write.proofs.record.put_columns.Tie as tie
 enum-known-kind : tie.Need-enum-known-kind
 enum-known-kind c = search needs
 
-cast-put-three-fields : tie.Need-cast-put-three-fields
-cast-put-three-fields c = search needs
-
-cast-put-three-fields-2 : tie.Need-cast-put-three-fields-2
-cast-put-three-fields-2 c = search needs
-
-cast-put-three-fields-3 : tie.Need-cast-put-three-fields-3
-cast-put-three-fields-3 c = search needs
-
-put-three-fields-requires : tie.Need-put-three-fields-requires
-put-three-fields-requires c κs = search needs
-
-enum-known-kind-2 : tie.Need-enum-known-kind-2
-enum-known-kind-2 c = search needs
-
-cast-put-three-fields-4 : tie.Need-cast-put-three-fields-4
-cast-put-three-fields-4 c = search needs
-
-cast-put-three-fields-5 : tie.Need-cast-put-three-fields-5
-cast-put-three-fields-5 c = search needs
-
-cast-put-three-fields-6 : tie.Need-cast-put-three-fields-6
-cast-put-three-fields-6 c = search needs
-
-put-three-fields-requires-2 : tie.Need-put-three-fields-requires-2
-put-three-fields-requires-2 c κs = search needs
-
-enum-known-kind-3 : tie.Need-enum-known-kind-3
-enum-known-kind-3 c = search needs
-
-cast-put-three-fields-7 : tie.Need-cast-put-three-fields-7
-cast-put-three-fields-7 c = search needs
-
-cast-put-three-fields-8 : tie.Need-cast-put-three-fields-8
-cast-put-three-fields-8 c = search needs
-
-cast-put-three-fields-9 : tie.Need-cast-put-three-fields-9
-cast-put-three-fields-9 c = search needs
-
-put-three-fields-requires-3 : tie.Need-put-three-fields-requires-3
-put-three-fields-requires-3 c κs = search needs
-
-enum-known-kind-4 : tie.Need-enum-known-kind-4
-enum-known-kind-4 c = search needs
-
-cast-put-three-fields-10 : tie.Need-cast-put-three-fields-10
-cast-put-three-fields-10 c = search needs
-
-cast-put-three-fields-11 : tie.Need-cast-put-three-fields-11
-cast-put-three-fields-11 c = search needs
-
-cast-put-three-fields-12 : tie.Need-cast-put-three-fields-12
-cast-put-three-fields-12 c = search needs
-
-put-three-fields-requires-4 : tie.Need-put-three-fields-requires-4
-put-three-fields-requires-4 c κs = search needs
-
-enum-known-kind-5 : tie.Need-enum-known-kind-5
-enum-known-kind-5 c = search needs
-
-cast-put-two-fields : tie.Need-cast-put-two-fields
-cast-put-two-fields c = search needs
-
-cast-put-two-fields-2 : tie.Need-cast-put-two-fields-2
-cast-put-two-fields-2 c = search needs
-
-put-two-fields-requires : tie.Need-put-two-fields-requires
-put-two-fields-requires c κs = search needs
-
-enum-known-kind-6 : tie.Need-enum-known-kind-6
-enum-known-kind-6 c = search needs
-
-cast-put-two-fields-3 : tie.Need-cast-put-two-fields-3
-cast-put-two-fields-3 c = search needs
-
-cast-put-two-fields-4 : tie.Need-cast-put-two-fields-4
-cast-put-two-fields-4 c = search needs
-
-put-two-fields-requires-2 : tie.Need-put-two-fields-requires-2
-put-two-fields-requires-2 c κs = search needs
-
-enum-known-kind-7 : tie.Need-enum-known-kind-7
-enum-known-kind-7 c = search needs
-
-cast-put-two-fields-5 : tie.Need-cast-put-two-fields-5
-cast-put-two-fields-5 c = search needs
-
-cast-put-two-fields-6 : tie.Need-cast-put-two-fields-6
-cast-put-two-fields-6 c = search needs
-
-put-two-fields-requires-3 : tie.Need-put-two-fields-requires-3
-put-two-fields-requires-3 c κs = search needs
-
-enum-known-kind-8 : tie.Need-enum-known-kind-8
-enum-known-kind-8 c = search needs
-
-put-number-field-requires : tie.Need-put-number-field-requires
-put-number-field-requires c κs = search needs
-
-enum-known-kind-9 : tie.Need-enum-known-kind-9
-enum-known-kind-9 c = search needs
-
 cast-put-number-field : tie.Need-cast-put-number-field
 cast-put-number-field c = search needs
 
-put-number-field-requires-2 : tie.Need-put-number-field-requires-2
-put-number-field-requires-2 c κs = search needs
-
-enum-known-kind-10 : tie.Need-enum-known-kind-10
-enum-known-kind-10 c = search needs
-
-cast-put-number-field-2 : tie.Need-cast-put-number-field-2
-cast-put-number-field-2 c = search needs
-
-put-number-field-requires-3 : tie.Need-put-number-field-requires-3
-put-number-field-requires-3 c κs = search needs
-
-enum-known-kind-11 : tie.Need-enum-known-kind-11
-enum-known-kind-11 c = search needs
-
-put-number-field-requires-4 : tie.Need-put-number-field-requires-4
-put-number-field-requires-4 c κs = search needs
-
-enum-known-kind-12 : tie.Need-enum-known-kind-12
-enum-known-kind-12 c = search needs
-
-cast-put-number-field-3 : tie.Need-cast-put-number-field-3
-cast-put-number-field-3 c = search needs
-
-put-number-field-requires-5 : tie.Need-put-number-field-requires-5
-put-number-field-requires-5 c κs = search needs
+put-number-field-requires : tie.Need-put-number-field-requires
+put-number-field-requires c κs = search needs
 
 cast-put-four-fields : tie.Need-cast-put-four-fields
 cast-put-four-fields c = search needs
@@ -157,10 +31,10 @@ cast-put-four-fields-4 : tie.Need-cast-put-four-fields-4
 cast-put-four-fields-4 c = search needs
 
 put-four-fields-requires : tie.Need-put-four-fields-requires
-put-four-fields-requires c κs = omega (arith, c .before .before .before .put-number-field5 .ensures .place, number-length (c .before .before .before .before .before .before .kind12 .given .0 .0), c .before .before .before .before .before .before .before .before .before .pre)
+put-four-fields-requires c κs = omega (arith, c .before .before .before .put-number-field .ensures .place, number-length (c .before .before .before .before .before .before .kind .given .0 .0), c .before .before .before .before .before .before .before .before .before .pre)
 
-enum-known-kind-13 : tie.Need-enum-known-kind-13
-enum-known-kind-13 c = search needs
+enum-known-kind-2 : tie.Need-enum-known-kind-2
+enum-known-kind-2 c = search needs
 
 cast-put-four-fields-5 : tie.Need-cast-put-four-fields-5
 cast-put-four-fields-5 c = search needs
@@ -177,228 +51,51 @@ cast-put-four-fields-8 c = search needs
 put-four-fields-requires-2 : tie.Need-put-four-fields-requires-2
 put-four-fields-requires-2 c κs = search needs
 
-enum-known-kind-14 : tie.Need-enum-known-kind-14
-enum-known-kind-14 c = search needs
-
-put-key-field-requires : tie.Need-put-key-field-requires
-put-key-field-requires c κs = search needs
-
-put-mode-field-requires : tie.Need-put-mode-field-requires
-put-mode-field-requires c κs = omega (arith, c .before .before .before .put-key-field .ensures .place, key-length (c .before .before .before .before .before .before .kind14 .given .0 .0), c .before .before .before .before .before .before .before .before .before .pre)
-
-enum-known-kind-15 : tie.Need-enum-known-kind-15
-enum-known-kind-15 c = search needs
-
-cast-put-number-field-4 : tie.Need-cast-put-number-field-4
-cast-put-number-field-4 c = search needs
-
-put-number-field-requires-6 : tie.Need-put-number-field-requires-6
-put-number-field-requires-6 c κs = search needs
+put-three-columns-requires : tie.Need-put-three-columns-requires
+put-three-columns-requires c κs = (c .before .before .before .pre, three-columns (c .before .before .before .args .kind) (c .before .match .keys3))
 
 same-length : tie.Need-same-length
 same-length c = search needs
 
 returns : tie.Need-returns
 unfolding kindFrom nameOf eventShape valuesOf fieldsOf columnField tailFields further
-returns c = rw (c .before .before .before .before .before .kind .given .1) (c .before .before .put-three-fields .ensures)
+returns c = rw (c .before .before .before .before .before .before .before .before .before .kind .given .1) (then (c .before .before .before .before .before .before .put-number-field .ensures) (c .before .before .put-four-fields .ensures))
 
 same-length-2 : tie.Need-same-length-2
 same-length-2 c = search needs
 
 returns-2 : tie.Need-returns-2
 unfolding kindFrom nameOf eventShape valuesOf fieldsOf columnField tailFields further
-returns-2 c = rw (c .before .before .before .before .before .kind2 .given .1) (c .before .before .put-three-fields2 .ensures)
+returns-2 c = rw (c .before .before .before .before .before .kind2 .given .1) (c .before .before .put-four-fields2 .ensures)
 
 same-length-3 : tie.Need-same-length-3
 same-length-3 c = search needs
 
 returns-3 : tie.Need-returns-3
-unfolding kindFrom nameOf eventShape valuesOf fieldsOf columnField tailFields further
-returns-3 c = rw (c .before .before .before .before .before .kind3 .given .1) (c .before .before .put-three-fields3 .ensures)
-
-same-length-4 : tie.Need-same-length-4
-same-length-4 c = search needs
-
-returns-4 : tie.Need-returns-4
-unfolding kindFrom nameOf eventShape valuesOf fieldsOf columnField tailFields further
-returns-4 c = rw (c .before .before .before .before .before .kind4 .given .1) (c .before .before .put-three-fields4 .ensures)
-
-same-length-5 : tie.Need-same-length-5
-same-length-5 c = search needs
-
-returns-5 : tie.Need-returns-5
-unfolding kindFrom nameOf eventShape valuesOf fieldsOf columnField tailFields further
-returns-5 c = rw (c .before .before .before .before .before .kind5 .given .1) (c .before .before .put-two-fields .ensures)
-
-same-length-6 : tie.Need-same-length-6
-same-length-6 c = search needs
-
-returns-6 : tie.Need-returns-6
-unfolding kindFrom nameOf eventShape valuesOf fieldsOf columnField tailFields further
-returns-6 c = rw (c .before .before .before .before .before .kind6 .given .1) (c .before .before .put-two-fields2 .ensures)
-
-same-length-7 : tie.Need-same-length-7
-same-length-7 c = search needs
-
-returns-7 : tie.Need-returns-7
-unfolding kindFrom nameOf eventShape valuesOf fieldsOf columnField tailFields further
-returns-7 c = rw (c .before .before .before .before .before .kind7 .given .1) (c .before .before .put-two-fields3 .ensures)
-
-same-length-8 : tie.Need-same-length-8
-same-length-8 c = search needs
-
-returns-8 : tie.Need-returns-8
-unfolding kindFrom nameOf eventShape valuesOf fieldsOf columnField tailFields further
-returns-8 c = rw (c .before .before .before .before .before .kind8 .given .1) (last-field (num (c .before .before .before .before .before .kind8 .given .0 .0)) (c .before .before .put-number-field .ensures))
-
-same-length-9 : tie.Need-same-length-9
-same-length-9 c = search needs
-
-returns-9 : tie.Need-returns-9
-unfolding kindFrom nameOf eventShape valuesOf fieldsOf columnField tailFields further
-returns-9 c = rw (c .before .before .before .before .before .kind9 .given .1) (last-field (num (c .before .before .before .before .before .kind9 .given .0 .0)) (c .before .before .put-number-field2 .ensures))
-
-same-length-10 : tie.Need-same-length-10
-same-length-10 c = search needs
-
-returns-10 : tie.Need-returns-10
-unfolding kindFrom nameOf eventShape valuesOf fieldsOf columnField tailFields further
-returns-10 c = rw (c .before .before .before .before .before .kind10 .given .1) (last-field (num (c .before .before .before .before .before .kind10 .given .0 .0)) (c .before .before .put-number-field3 .ensures))
-
-same-length-11 : tie.Need-same-length-11
-same-length-11 c = search needs
-
-returns-11 : tie.Need-returns-11
-unfolding kindFrom nameOf eventShape valuesOf fieldsOf columnField tailFields further
-returns-11 c = rw (c .before .before .before .before .before .kind11 .given .1) (last-field (num (c .before .before .before .before .before .kind11 .given .0 .0)) (c .before .before .put-number-field4 .ensures))
-
-same-length-12 : tie.Need-same-length-12
-same-length-12 c = search needs
-
-returns-12 : tie.Need-returns-12
-unfolding kindFrom nameOf eventShape valuesOf fieldsOf columnField tailFields further
-returns-12 c = rw (c .before .before .before .before .before .before .before .before .before .kind12 .given .1) (then (c .before .before .before .before .before .before .put-number-field5 .ensures) (c .before .before .put-four-fields .ensures))
-
-same-length-13 : tie.Need-same-length-13
-same-length-13 c = search needs
-
-returns-13 : tie.Need-returns-13
-unfolding kindFrom nameOf eventShape valuesOf fieldsOf columnField tailFields further
-returns-13 c = rw (c .before .before .before .before .before .kind13 .given .1) (c .before .before .put-four-fields2 .ensures)
-
-same-length-14 : tie.Need-same-length-14
-same-length-14 c = search needs
-
-returns-14 : tie.Need-returns-14
-unfolding kindFrom further
-returns-14 c = let k = c .before .before .before .before .before .before .before .before .before .kind14 .given in
-    rw (k .1) (rw (key-fields (k .0 .0) (k .0 .1 .0) (omega (arith, c .before .before .before .before .before .before .before .before .known-told14 .given))) at (then (c .before .before .before .before .before .before .put-key-field .ensures) (last-field (columnField mode (k .0 .1 .0)) (c .before .before .put-mode-field .ensures))))
-
-same-length-15 : tie.Need-same-length-15
-same-length-15 c = search needs
-
-returns-15 : tie.Need-returns-15
-unfolding kindFrom nameOf eventShape valuesOf fieldsOf columnField tailFields further
-returns-15 c = rw (c .before .before .before .before .before .kind15 .given .1) (last-field (num (c .before .before .before .before .before .kind15 .given .0 .0)) (c .before .before .put-number-field6 .ensures))
-
-returns-16 : tie.Need-returns-16
-unfolding further
-returns-16 c = rw (no-columns (c .before .before .args .kind) (c .match .keys16)) (nothing (c .before .before .args .out .now) (c .before .before .args .at))
+returns-3 c = search needs
 
 pub put-columns-spec : {M : Type 1} → statement M
 put-columns-spec =
     tie.close
     (tie.spec
     enum-known-kind
-    cast-put-three-fields
-    cast-put-three-fields-2
-    cast-put-three-fields-3
-    put-three-fields-requires
-    enum-known-kind-2
-    cast-put-three-fields-4
-    cast-put-three-fields-5
-    cast-put-three-fields-6
-    put-three-fields-requires-2
-    enum-known-kind-3
-    cast-put-three-fields-7
-    cast-put-three-fields-8
-    cast-put-three-fields-9
-    put-three-fields-requires-3
-    enum-known-kind-4
-    cast-put-three-fields-10
-    cast-put-three-fields-11
-    cast-put-three-fields-12
-    put-three-fields-requires-4
-    enum-known-kind-5
-    cast-put-two-fields
-    cast-put-two-fields-2
-    put-two-fields-requires
-    enum-known-kind-6
-    cast-put-two-fields-3
-    cast-put-two-fields-4
-    put-two-fields-requires-2
-    enum-known-kind-7
-    cast-put-two-fields-5
-    cast-put-two-fields-6
-    put-two-fields-requires-3
-    enum-known-kind-8
-    put-number-field-requires
-    enum-known-kind-9
     cast-put-number-field
-    put-number-field-requires-2
-    enum-known-kind-10
-    cast-put-number-field-2
-    put-number-field-requires-3
-    enum-known-kind-11
-    put-number-field-requires-4
-    enum-known-kind-12
-    cast-put-number-field-3
-    put-number-field-requires-5
+    put-number-field-requires
     cast-put-four-fields
     cast-put-four-fields-2
     cast-put-four-fields-3
     cast-put-four-fields-4
     put-four-fields-requires
-    enum-known-kind-13
+    enum-known-kind-2
     cast-put-four-fields-5
     cast-put-four-fields-6
     cast-put-four-fields-7
     cast-put-four-fields-8
     put-four-fields-requires-2
-    enum-known-kind-14
-    put-key-field-requires
-    put-mode-field-requires
-    enum-known-kind-15
-    cast-put-number-field-4
-    put-number-field-requires-6
+    put-three-columns-requires
     same-length
     returns
     same-length-2
     returns-2
     same-length-3
-    returns-3
-    same-length-4
-    returns-4
-    same-length-5
-    returns-5
-    same-length-6
-    returns-6
-    same-length-7
-    returns-7
-    same-length-8
-    returns-8
-    same-length-9
-    returns-9
-    same-length-10
-    returns-10
-    same-length-11
-    returns-11
-    same-length-12
-    returns-12
-    same-length-13
-    returns-13
-    same-length-14
-    returns-14
-    same-length-15
-    returns-15
-    returns-16)
+    returns-3)

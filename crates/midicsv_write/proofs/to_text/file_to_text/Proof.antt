@@ -6,7 +6,7 @@ use lib.ListN.{length}
 use Rattle.event.proofs.BytesLaws.{bytes-of}
 use Rattle.event_write.proofs.WriteLaws.{after-measure, unmeasured, measured}
 use Rattle.smf.proofs.AcceptedLaws.{accepted-file, file-readable}
-use Rattle.midicsv_write.proofs.AnswerLaws.{refused-answer, refused-leaves, text-fits, room-answer, fine-answer, fine-leaves}
+use Rattle.midicsv_write.proofs.AnswerLaws.{text-refused, text-fits, room-answer, fine-answer, fine-leaves}
 use native.Mathlib.Omega.{arith}
 use borrow.Author.Needs.{needs}
 use Rattle.midicsv_write.proofs.to_text.file_to_text.Statement.{statement}
@@ -21,7 +21,7 @@ returns c =
     let old = c .before .before .before .before .args .out .now in
     let v = c .before .check .result in
     let judged = c .before .check .ensures .0 in
-    (refused-answer (length old) _ v judged (c .if1 .taken), refused-leaves _ v old judged (c .if1 .taken))
+    text-refused _ v old judged (c .if1 .taken)
 
 mul-if2 : tie.Need-mul-if2
 mul-if2 c =

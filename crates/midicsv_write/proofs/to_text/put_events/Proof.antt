@@ -3,7 +3,8 @@ use lib.ListN.{length}
 use Rattle.event.specs.Outcome.{Readable}
 use Rattle.event.proofs.BytesLaws.{bytes-of}
 use Rattle.event_write.proofs.WriteLaws.{Remains, all-remains, go-on, finish}
-use Rattle.smf.proofs.TurnLaws.{A, turn-stop, event-came, turn-place, turn-next, turn-end}
+use Rattle.smf.proofs.CameLaws.{event-came}
+use Rattle.smf.proofs.TurnLaws.{A, turn-stop, turn-next, turn-end}
 use Rattle.midicsv_write.proofs.TextLaws.{EventsLeft, next-line, last-line, events-few}
 use mathlib.Core.Path.{_≡_, refl, sym, _∙_}
 use native.Mathlib.Omega.{arith}
@@ -35,7 +36,7 @@ returns c =
     let s = a .body .now in
     let l = c .before .before .before .before .loop in
     let bytes = bytes-of s (λ i. omega (arith, c .before .before .before .before .before .shared-slice-known .given i)) in
-    absurd (turn-stop s (l .at) (l .time .0) (l .status) (c .before .number .given .0 .0) bytes (sym (c .before .before .before .read-event .ensures) ∙ c .before .number .given .1) (l .inv .2))
+    absurd (turn-stop s (l .at) (l .time .0) (l .status) bytes (c .before .before .before .read-event .ensures) (c .before .number .given .1) (l .inv .2))
 
 enum-known-t : tie.Need-enum-known-t Inv-loop μ-loop
 enum-known-t c = search needs
@@ -61,15 +62,9 @@ returns-2 c =
     let s = a .body .now in
     let l = c .before .before .before .before .before .before .before .before .before .before .loop in
     let bytes = bytes-of s (λ i. omega (arith, c .before .before .before .before .before .before .before .before .before .before .before .shared-slice-known .given i)) in
-    let g = c .before .before .before .before .before .before .before .t .given in
-    let came = sym (c .before .before .before .before .before .before .before .before .before .read-event .ensures) ∙ g .1 in
-    let u = g .0 .0 in
-    let k = g .0 .1 .0 in
-    let q = g .0 .1 .1 .0 in
-    let st = g .0 .1 .1 .1 .0 in
-    let e = event-came s (l .at) (l .time .0) (l .status) u k q st bytes (l .inv .0) came in
-    let all = turn-end s (l .at) (l .time .0) (l .status) u k q st bytes (l .inv .0) came (l .inv .2) (sym (c .before .is-end .ensures) ∙ c .if1 .taken) in
-    finish _ _ (l .inv .3) (last-line (a .track) s (l .at) (l .time .0) (l .status) u k q st e all) (c .before .before .before .before .put-event-line .ensures)
+    let e = event-came s (l .at) (l .time .0) (l .status) bytes (l .inv .0) (c .before .before .before .before .before .before .before .before .before .read-event .ensures) (c .before .before .before .before .before .before .before .t .given .1) in
+    let all = turn-end bytes e (l .inv .2) (sym (c .before .is-end .ensures) ∙ c .if1 .taken) in
+    finish _ _ (l .inv .3) (last-line (a .track) e all) (c .before .before .before .before .put-event-line .ensures)
 
 loop-less : tie.Need-loop-less Inv-loop μ-loop
 loop-less c =
@@ -77,13 +72,8 @@ loop-less c =
     let s = a .body .now in
     let l = c .before .before .before .before .before .before .before .before .before .before .loop in
     let bytes = bytes-of s (λ i. omega (arith, c .before .before .before .before .before .before .before .before .before .before .before .shared-slice-known .given i)) in
-    let g = c .before .before .before .before .before .before .before .t .given in
-    let came = sym (c .before .before .before .before .before .before .before .before .before .read-event .ensures) ∙ g .1 in
-    let u = g .0 .0 in
-    let k = g .0 .1 .0 in
-    let q = g .0 .1 .1 .0 in
-    let st = g .0 .1 .1 .1 .0 in
-    omega (arith, turn-place s (l .at) (l .time .0) (l .status) u k q st bytes (l .inv .0) came)
+    let e = event-came s (l .at) (l .time .0) (l .status) bytes (l .inv .0) (c .before .before .before .before .before .before .before .before .before .read-event .ensures) (c .before .before .before .before .before .before .before .t .given .1) in
+    omega (arith, e .later, e .inside)
 
 loop-again : tie.Need-loop-again Inv-loop μ-loop
 loop-again c =
@@ -91,16 +81,9 @@ loop-again c =
     let s = a .body .now in
     let l = c .before .before .before .before .before .before .before .before .before .before .loop in
     let bytes = bytes-of s (λ i. omega (arith, c .before .before .before .before .before .before .before .before .before .before .before .shared-slice-known .given i)) in
-    let g = c .before .before .before .before .before .before .before .t .given in
-    let came = sym (c .before .before .before .before .before .before .before .before .before .read-event .ensures) ∙ g .1 in
-    let u = g .0 .0 in
-    let k = g .0 .1 .0 in
-    let q = g .0 .1 .1 .0 in
-    let st = g .0 .1 .1 .1 .0 in
-    let e = event-came s (l .at) (l .time .0) (l .status) u k q st bytes (l .inv .0) came in
-    let p = turn-place s (l .at) (l .time .0) (l .status) u k q st bytes (l .inv .0) came in
-    let n = turn-next s (l .at) (l .time .0) (l .status) u k q st bytes (l .inv .0) came (l .inv .2) (sym (c .before .is-end .ensures) ∙ c .if1 .left) in
-    (p .1, c .before .before .before .before .put-event-line .kept .0 ∙ l .inv .1, n .0, go-on _ _ _ (l .inv .3) (next-line (a .track) s (l .at) (l .time .0) (l .status) u k q st e (n .1)) (c .before .before .before .before .put-event-line .ensures))
+    let e = event-came s (l .at) (l .time .0) (l .status) bytes (l .inv .0) (c .before .before .before .before .before .before .before .before .before .read-event .ensures) (c .before .before .before .before .before .before .before .t .given .1) in
+    let n = turn-next bytes e (l .inv .2) (sym (c .before .is-end .ensures) ∙ c .if1 .left) in
+    (e .inside, c .before .before .before .before .put-event-line .kept .0 ∙ l .inv .1, n .0, go-on _ _ _ (l .inv .3) (next-line (a .track) e (n .1)) (c .before .before .before .before .put-event-line .ensures))
 
 pub put-events-spec : {M : Type 1} → statement M
 put-events-spec =

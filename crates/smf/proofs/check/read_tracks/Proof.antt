@@ -1,4 +1,4 @@
-use Prim.Native.Nat.{_-_, _≤_}
+use Prim.Native.Nat.{_≤_}
 use lib.ListN.{length}
 use Rattle.event.proofs.BytesLaws.{bytes-of}
 use Rattle.smf.proofs.ChunkLaws.{Tracks, tracks-none, tracks-bad, tracks-next}

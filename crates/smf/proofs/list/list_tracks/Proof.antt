@@ -2,7 +2,9 @@ use lib.ListN.{length}
 use Rattle.event.proofs.BytesLaws.{bytes-of}
 use Rattle.smf.specs.Listing.{endTimes, eventCounts}
 use Rattle.smf.proofs.VerdictLaws.{head-at}
-use Rattle.smf.proofs.ListLaws.{list-refused, refused-leaves, header-there, accepted, accepted-readable, short-answer, short-leaves, fine-answer, fine-leaves, length-times, length-counts, room-yes, room-first, room-second}
+use Rattle.smf.proofs.RefusalLaws.{judged-readable}
+use Rattle.smf.proofs.AcceptedLaws.{header-there, file-accepted}
+use Rattle.smf.proofs.ListLaws.{list-refused, refused-leaves, accepted-readable, short-answer, short-leaves, fine-answer, fine-leaves, length-times, length-counts, room-yes, room-first, room-second}
 use native.Mathlib.Omega.{arith}
 use mathlib.Core.Path.{sym, _∙_}
 use borrow.Author.Needs.{needs}
@@ -50,7 +52,7 @@ returns-2 c = let a = c .before .before .before .before .before .before .before 
     let bytes = bytes-of s (λ i. omega (arith, c .before .before .before .before .before .before .before .before .before .before .shared-slice-known .given i)) in
     let g = c .before .before .before .format .given in
     let came = sym (c .before .before .before .before .before .read-header .ensures) ∙ g .1 in
-    let there = accepted s (g .0 .0) (g .0 .1 .0) (g .0 .1 .1 .0) (g .0 .1 .1 .1 .0) v bytes came judged (c .before .before .before .before .before .before .if1 .left) in
+    let there = file-accepted s (g .0 .0) (g .0 .1 .0) (g .0 .1 .1 .0) (g .0 .1 .1 .1 .0) bytes came (judged-readable s v bytes judged (c .before .before .before .before .before .before .if1 .left)) in
     let b = g .0 .1 .0 in
     let at = g .0 .1 .1 .1 .0 in
     let short = room-first n m b (c .before .if2 .taken) in
@@ -69,7 +71,7 @@ returns-3 c = let a = c .before .before .before .before .before .before .before 
     let bytes = bytes-of s (λ i. omega (arith, c .before .before .before .before .before .before .before .before .before .before .before .shared-slice-known .given i)) in
     let g = c .before .before .before .before .format .given in
     let came = sym (c .before .before .before .before .before .before .read-header .ensures) ∙ g .1 in
-    let there = accepted s (g .0 .0) (g .0 .1 .0) (g .0 .1 .1 .0) (g .0 .1 .1 .1 .0) v bytes came judged (c .before .before .before .before .before .before .before .if1 .left) in
+    let there = file-accepted s (g .0 .0) (g .0 .1 .0) (g .0 .1 .1 .0) (g .0 .1 .1 .1 .0) bytes came (judged-readable s v bytes judged (c .before .before .before .before .before .before .before .if1 .left)) in
     let b = g .0 .1 .0 in
     let at = g .0 .1 .1 .1 .0 in
     let short = room-second n m b (c .before .before .if2 .left) (c .before .if3 .taken) in
@@ -85,7 +87,7 @@ fill-requires c κs = let a = c .before .before .before .before .before .before 
     let bytes = bytes-of s (λ i. omega (arith, c .before .before .before .before .before .before .before .before .before .before .before .before .shared-slice-known .given i)) in
     let g = c .before .before .before .before .before .format .given in
     let came = sym (c .before .before .before .before .before .before .before .read-header .ensures) ∙ g .1 in
-    let there = accepted s (g .0 .0) (g .0 .1 .0) (g .0 .1 .1 .0) (g .0 .1 .1 .1 .0) v bytes came judged (c .before .before .before .before .before .before .before .before .if1 .left) in
+    let there = file-accepted s (g .0 .0) (g .0 .1 .0) (g .0 .1 .1 .0) (g .0 .1 .1 .1 .0) bytes came (judged-readable s v bytes judged (c .before .before .before .before .before .before .before .before .if1 .left)) in
     let b = g .0 .1 .0 in
     let at = g .0 .1 .1 .1 .0 in
     let head = head-at s (g .0 .0) (g .0 .1 .0) (g .0 .1 .1 .0) (g .0 .1 .1 .1 .0) bytes came in
@@ -103,7 +105,7 @@ returns-4 c = let a = c .before .before .before .before .before .before .before 
     let judged = c .before .before .before .before .before .before .check .ensures .0 in
     let bytes = bytes-of s (λ i. omega (arith, c .before .before .before .before .before .before .before .before .before .shared-slice-known .given i)) in
     let k = c .before .before .number .given in
-    absurd (header-there s (k .0 .0) (k .0 .1 .0) v bytes (sym (c .before .before .before .before .read-header .ensures) ∙ k .1) judged (c .before .before .before .before .before .if1 .left))
+    absurd (header-there s (k .0 .0) (k .0 .1 .0) (sym (c .before .before .before .before .read-header .ensures) ∙ k .1) (judged-readable s v bytes judged (c .before .before .before .before .before .if1 .left)))
 
 same-length : tie.Need-same-length
 same-length c = search needs
@@ -121,7 +123,7 @@ returns-5 c = let a = c .before .before .before .before .before .before .before 
     let bytes = bytes-of s (λ i. omega (arith, c .before .before .before .before .before .before .before .before .before .before .before .before .before .before .before .before .before .before .shared-slice-known .given i)) in
     let g = c .before .before .before .before .before .before .before .before .before .before .before .format .given in
     let came = sym (c .before .before .before .before .before .before .before .before .before .before .before .before .before .read-header .ensures) ∙ g .1 in
-    let there = accepted s (g .0 .0) (g .0 .1 .0) (g .0 .1 .1 .0) (g .0 .1 .1 .1 .0) v bytes came judged (c .before .before .before .before .before .before .before .before .before .before .before .before .before .before .if1 .left) in
+    let there = file-accepted s (g .0 .0) (g .0 .1 .0) (g .0 .1 .1 .0) (g .0 .1 .1 .1 .0) bytes came (judged-readable s v bytes judged (c .before .before .before .before .before .before .before .before .before .before .before .before .before .before .if1 .left)) in
     let b = g .0 .1 .0 in
     let at = g .0 .1 .1 .1 .0 in
     let fits = room-yes n m b (c .before .before .before .before .before .before .before .before .before .if2 .left) (c .before .before .before .before .before .before .before .before .if3 .left) in

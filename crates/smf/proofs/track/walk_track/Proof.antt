@@ -3,7 +3,8 @@ use lib.ListN.{length, drop}
 use Rattle.event.proofs.BytesLaws.{bytes-of}
 use Rattle.smf.specs.Reader.{readAll}
 use Rattle.smf.specs.Step.{walkStep}
-use Rattle.smf.proofs.WalkLaws.{turn-stop, turn-place, turn-next, turn-end, turn-more}
+use Rattle.smf.proofs.CameLaws.{event-came}
+use Rattle.smf.proofs.WalkLaws.{turn-stop, turn-next, turn-end, turn-more}
 use native.Mathlib.Omega.{arith}
 use mathlib.Core.Path.{_≡_, sym, _∙_, ap}
 use borrow.Author.Needs.{needs}
@@ -34,7 +35,7 @@ returns : tie.Need-returns Inv-loop μ-loop
 returns c = let a = c .before .before .before .before .before .before .args in
     let l = c .before .before .before .before .loop in
     let bytes = bytes-of (a .body .now) (λ i. omega (arith, c .before .before .before .before .before .shared-slice-known .given i)) in
-    sym (l .inv .2 ∙ turn-stop (a .body .now) (a .base) (l .at) (l .time .0) (l .events) (l .status) bytes (l .inv .0) (c .before .number .given .0 .0) (sym (c .before .before .before .read-event .ensures) ∙ c .before .number .given .1))
+    sym (l .inv .2 ∙ turn-stop (a .body .now) (a .base) (l .at) (l .time .0) (l .events) (l .status) bytes (c .before .before .before .read-event .ensures) (c .before .number .given .1))
 
 enum-known-t : tie.Need-enum-known-t Inv-loop μ-loop
 enum-known-t c = search needs
@@ -43,9 +44,8 @@ add-events : tie.Need-add-events Inv-loop μ-loop
 add-events c = let a = c .before .before .before .before .before .before .args in
     let l = c .before .before .before .before .loop in
     let bytes = bytes-of (a .body .now) (λ i. omega (arith, c .before .before .before .before .before .shared-slice-known .given i)) in
-    let g = c .before .t .given in
-    let came = sym (c .before .before .before .read-event .ensures) ∙ g .1 in
-    omega (arith, turn-place (a .body .now) (a .base) (l .at) (l .time .0) (l .events) (l .status) bytes (l .inv .0) (g .0 .0) (g .0 .1 .0) (g .0 .1 .1 .0) (g .0 .1 .1 .1 .0) came)
+    let e = event-came (a .body .now) (l .at) (l .time .0) (l .status) bytes (l .inv .0) (c .before .before .before .read-event .ensures) (c .before .t .given .1) in
+    omega (arith, e .later, e .inside)
 
 is-end-requires : tie.Need-is-end-requires Inv-loop μ-loop
 is-end-requires c κs = search needs
@@ -54,42 +54,36 @@ add-t17 : tie.Need-add-t17 Inv-loop μ-loop
 add-t17 c = let a = c .before .before .before .before .before .before .before .before .before .args in
     let l = c .before .before .before .before .before .before .before .loop in
     let bytes = bytes-of (a .body .now) (λ i. omega (arith, c .before .before .before .before .before .before .before .before .shared-slice-known .given i)) in
-    let g = c .before .before .before .before .t .given in
-    let came = sym (c .before .before .before .before .before .before .read-event .ensures) ∙ g .1 in
-    omega (arith, turn-place (a .body .now) (a .base) (l .at) (l .time .0) (l .events) (l .status) bytes (l .inv .0) (g .0 .0) (g .0 .1 .0) (g .0 .1 .1 .0) (g .0 .1 .1 .1 .0) came)
+    let e = event-came (a .body .now) (l .at) (l .time .0) (l .status) bytes (l .inv .0) (c .before .before .before .before .before .before .read-event .ensures) (c .before .before .before .before .t .given .1) in
+    omega (arith, e .later, e .inside)
 
 returns-2 : tie.Need-returns-2 Inv-loop μ-loop
 returns-2 c = let a = c .before .before .before .before .before .before .before .before .before .args in
     let l = c .before .before .before .before .before .before .before .loop in
     let bytes = bytes-of (a .body .now) (λ i. omega (arith, c .before .before .before .before .before .before .before .before .shared-slice-known .given i)) in
-    let g = c .before .before .before .before .t .given in
-    let came = sym (c .before .before .before .before .before .before .read-event .ensures) ∙ g .1 in
-    sym (l .inv .2 ∙ turn-more (a .body .now) (a .base) (l .at) (l .time .0) (l .events) (l .status) bytes (l .inv .0) (g .0 .0) (g .0 .1 .0) (g .0 .1 .1 .0) (g .0 .1 .1 .1 .0) came (sym (c .before .before .is-end .ensures) ∙ c .before .if1 .taken) (c .if2 .taken))
+    let e = event-came (a .body .now) (l .at) (l .time .0) (l .status) bytes (l .inv .0) (c .before .before .before .before .before .before .read-event .ensures) (c .before .before .before .before .t .given .1) in
+    sym (l .inv .2 ∙ turn-more (a .base) (l .events) bytes e (sym (c .before .before .is-end .ensures) ∙ c .before .if1 .taken) (c .if2 .taken))
 
 returns-3 : tie.Need-returns-3 Inv-loop μ-loop
 returns-3 c = let a = c .before .before .before .before .before .before .before .before .before .args in
     let l = c .before .before .before .before .before .before .before .loop in
     let bytes = bytes-of (a .body .now) (λ i. omega (arith, c .before .before .before .before .before .before .before .before .shared-slice-known .given i)) in
-    let g = c .before .before .before .before .t .given in
-    let came = sym (c .before .before .before .before .before .before .read-event .ensures) ∙ g .1 in
-    sym (l .inv .2 ∙ turn-end (a .body .now) (a .base) (l .at) (l .time .0) (l .events) (l .status) bytes (l .inv .0) (g .0 .0) (g .0 .1 .0) (g .0 .1 .1 .0) (g .0 .1 .1 .1 .0) came (sym (c .before .before .is-end .ensures) ∙ c .before .if1 .taken) (c .if2 .left))
+    let e = event-came (a .body .now) (l .at) (l .time .0) (l .status) bytes (l .inv .0) (c .before .before .before .before .before .before .read-event .ensures) (c .before .before .before .before .t .given .1) in
+    sym (l .inv .2 ∙ turn-end (a .base) (l .events) bytes e (sym (c .before .before .is-end .ensures) ∙ c .before .if1 .taken) (c .if2 .left))
 
 loop-less : tie.Need-loop-less Inv-loop μ-loop
 loop-less c = let a = c .before .before .before .before .before .before .before .before .args in
     let l = c .before .before .before .before .before .before .loop in
     let bytes = bytes-of (a .body .now) (λ i. omega (arith, c .before .before .before .before .before .before .before .shared-slice-known .given i)) in
-    let g = c .before .before .before .t .given in
-    let came = sym (c .before .before .before .before .before .read-event .ensures) ∙ g .1 in
-    omega (arith, turn-place (a .body .now) (a .base) (l .at) (l .time .0) (l .events) (l .status) bytes (l .inv .0) (g .0 .0) (g .0 .1 .0) (g .0 .1 .1 .0) (g .0 .1 .1 .1 .0) came)
+    let e = event-came (a .body .now) (l .at) (l .time .0) (l .status) bytes (l .inv .0) (c .before .before .before .before .before .read-event .ensures) (c .before .before .before .t .given .1) in
+    omega (arith, e .later, e .inside)
 
 loop-again : tie.Need-loop-again Inv-loop μ-loop
 loop-again c = let a = c .before .before .before .before .before .before .before .before .args in
     let l = c .before .before .before .before .before .before .loop in
     let bytes = bytes-of (a .body .now) (λ i. omega (arith, c .before .before .before .before .before .before .before .shared-slice-known .given i)) in
-    let g = c .before .before .before .t .given in
-    let came = sym (c .before .before .before .before .before .read-event .ensures) ∙ g .1 in
-    let p = turn-place (a .body .now) (a .base) (l .at) (l .time .0) (l .events) (l .status) bytes (l .inv .0) (g .0 .0) (g .0 .1 .0) (g .0 .1 .1 .0) (g .0 .1 .1 .1 .0) came in
-    (p .1, omega (arith, p), l .inv .2 ∙ turn-next (a .body .now) (a .base) (l .at) (l .time .0) (l .events) (l .status) bytes (l .inv .0) (g .0 .0) (g .0 .1 .0) (g .0 .1 .1 .0) (g .0 .1 .1 .1 .0) came (sym (c .before .is-end .ensures) ∙ c .if1 .left))
+    let e = event-came (a .body .now) (l .at) (l .time .0) (l .status) bytes (l .inv .0) (c .before .before .before .before .before .read-event .ensures) (c .before .before .before .t .given .1) in
+    (e .inside, omega (arith, e .later, e .inside), l .inv .2 ∙ turn-next (a .base) (l .events) bytes e (sym (c .before .is-end .ensures) ∙ c .if1 .left))
 
 pub walk-track-spec : {M : Type 1} → statement M
 walk-track-spec =

@@ -7,7 +7,8 @@ use lib.ListN.{length}
 use Rattle.event.specs.Outcome.{Readable}
 use Rattle.event.proofs.BytesLaws.{bytes-of}
 use Rattle.event_write.proofs.WriteLaws.{Remains, all-remains, go-on, finish}
-use Rattle.smf.proofs.TurnLaws.{A, turn-stop, event-came, turn-place, turn-next, turn-end}
+use Rattle.smf.proofs.CameLaws.{event-came}
+use Rattle.smf.proofs.TurnLaws.{A, turn-stop, turn-next, turn-end}
 use Rattle.smf_write.proofs.TidyLaws.{Left, next-left, end-left, left-small}
 use native.Mathlib.Omega.{arith}
 use mathlib.Core.Path.{_≡_, refl, sym, _∙_, ap}
@@ -38,7 +39,7 @@ returns c = let a = c .before .before .before .before .before .before .before .a
     let s = a .body .now in
     let l = c .before .before .before .before .loop in
     let bytes = bytes-of s (λ i. omega (arith, c .before .before .before .before .before .shared-slice-known .given i)) in
-    absurd (turn-stop s (l .at) (l .time .0) (l .status) (c .before .number .given .0 .0) bytes (sym (c .before .before .before .read-event .ensures) ∙ c .before .number .given .1) (l .inv .2))
+    absurd (turn-stop s (l .at) (l .time .0) (l .status) bytes (c .before .before .before .read-event .ensures) (c .before .number .given .1) (l .inv .2))
 
 enum-known-t : tie.Need-enum-known-t Inv-loop μ-loop
 enum-known-t c = search needs
@@ -65,29 +66,20 @@ returns-2 c = let a = c .before .before .before .before .before .before .before 
     let l = c .before .before .before .before .before .before .before .before .before .before .before .loop in
     let bytes = bytes-of s (λ i. omega (arith, c .before .before .before .before .before .before .before .before .before .before .before .before .shared-slice-known .given i)) in
     let g = c .before .before .before .before .before .before .before .before .t .given in
-    let came = sym (c .before .before .before .before .before .before .before .before .before .before .read-event .ensures) ∙ g .1 in
-    let u = g .0 .0 in
     let k = g .0 .1 .0 in
-    let q = g .0 .1 .1 .0 in
-    let st = g .0 .1 .1 .1 .0 in
     let delta = ap (λ (d : Delta). d .0) (c .before .before .before .before .before .before .step .ensures) in
     let item : ℕ → List ℕ = λ z. headBytes (mannerOf (a .short)) (l .status) z k ++ dataOf (kindFrom s k) in
-    let e = event-came s (l .at) (l .time .0) (l .status) u k q st bytes (l .inv .0) came in
-    let all = turn-end s (l .at) (l .time .0) (l .status) u k q st bytes (l .inv .0) came (l .inv .2) (sym (c .before .is-end .ensures) ∙ c .if1 .taken) in
-    finish _ _ (l .inv .3) (end-left (mannerOf (a .short)) s (l .at) (l .time .0) (l .status) u k q st e all ∙ ap item (sym delta)) (c .before .before .before .before .put-event .ensures)
+    let e = event-came s (l .at) (l .time .0) (l .status) bytes (l .inv .0) (c .before .before .before .before .before .before .before .before .before .before .read-event .ensures) (g .1) in
+    let all = turn-end bytes e (l .inv .2) (sym (c .before .is-end .ensures) ∙ c .if1 .taken) in
+    finish _ _ (l .inv .3) (end-left (mannerOf (a .short)) e all ∙ ap item (sym delta)) (c .before .before .before .before .put-event .ensures)
 
 loop-less : tie.Need-loop-less Inv-loop μ-loop
 loop-less c = let a = c .before .before .before .before .before .before .before .before .before .before .before .before .before .before .args in
     let s = a .body .now in
     let l = c .before .before .before .before .before .before .before .before .before .before .before .loop in
     let bytes = bytes-of s (λ i. omega (arith, c .before .before .before .before .before .before .before .before .before .before .before .before .shared-slice-known .given i)) in
-    let g = c .before .before .before .before .before .before .before .before .t .given in
-    let came = sym (c .before .before .before .before .before .before .before .before .before .before .read-event .ensures) ∙ g .1 in
-    let u = g .0 .0 in
-    let k = g .0 .1 .0 in
-    let q = g .0 .1 .1 .0 in
-    let st = g .0 .1 .1 .1 .0 in
-    omega (arith, turn-place s (l .at) (l .time .0) (l .status) u k q st bytes (l .inv .0) came)
+    let e = event-came s (l .at) (l .time .0) (l .status) bytes (l .inv .0) (c .before .before .before .before .before .before .before .before .before .before .read-event .ensures) (c .before .before .before .before .before .before .before .before .t .given .1) in
+    omega (arith, e .later, e .inside)
 
 loop-again : tie.Need-loop-again Inv-loop μ-loop
 loop-again c = let a = c .before .before .before .before .before .before .before .before .before .before .before .before .before .before .args in
@@ -95,17 +87,15 @@ loop-again c = let a = c .before .before .before .before .before .before .before
     let l = c .before .before .before .before .before .before .before .before .before .before .before .loop in
     let bytes = bytes-of s (λ i. omega (arith, c .before .before .before .before .before .before .before .before .before .before .before .before .shared-slice-known .given i)) in
     let g = c .before .before .before .before .before .before .before .before .t .given in
-    let came = sym (c .before .before .before .before .before .before .before .before .before .before .read-event .ensures) ∙ g .1 in
     let u = g .0 .0 in
     let k = g .0 .1 .0 in
     let q = g .0 .1 .1 .0 in
     let st = g .0 .1 .1 .1 .0 in
     let delta = ap (λ (d : Delta). d .0) (c .before .before .before .before .before .before .step .ensures) in
     let item : ℕ → List ℕ = λ z. headBytes (mannerOf (a .short)) (l .status) z k ++ dataOf (kindFrom s k) in
-    let e = event-came s (l .at) (l .time .0) (l .status) u k q st bytes (l .inv .0) came in
-    let p = turn-place s (l .at) (l .time .0) (l .status) u k q st bytes (l .inv .0) came in
-    let n = turn-next s (l .at) (l .time .0) (l .status) u k q st bytes (l .inv .0) came (l .inv .2) (sym (c .before .is-end .ensures) ∙ c .if1 .left) in
-    (p .1, c .before .before .before .before .put-event .kept .0 ∙ l .inv .1, n .0, go-on _ _ _ (l .inv .3) (next-left (mannerOf (a .short)) s (l .at) (l .time .0) (l .status) u k q st e (n .1) ∙ ap (λ z. item z ++ Left (mannerOf (a .short)) s q (u .0) st) (sym delta)) (c .before .before .before .before .put-event .ensures))
+    let e = event-came s (l .at) (l .time .0) (l .status) bytes (l .inv .0) (c .before .before .before .before .before .before .before .before .before .before .read-event .ensures) (g .1) in
+    let n = turn-next bytes e (l .inv .2) (sym (c .before .is-end .ensures) ∙ c .if1 .left) in
+    (e .inside, c .before .before .before .before .put-event .kept .0 ∙ l .inv .1, n .0, go-on _ _ _ (l .inv .3) (next-left (mannerOf (a .short)) e (n .1) ∙ ap (λ z. item z ++ Left (mannerOf (a .short)) s q (u .0) st) (sym delta)) (c .before .before .before .before .put-event .ensures))
 
 pub put-events-spec : {M : Type 1} → statement M
 put-events-spec =

@@ -3,7 +3,7 @@ use Rattle.event.proofs.BytesLaws.{bytes-of}
 use Rattle.event_write.specs.Head.{mannerOf}
 use Rattle.event_write.proofs.WriteLaws.{after-measure, unmeasured, measured}
 use Rattle.smf.proofs.AcceptedLaws.{accepted-file, file-readable}
-use Rattle.smf_write.proofs.FileLaws.{tidy-refused, refused-leaves, long-answer, room-answer, fine-answer, fine-leaves}
+use Rattle.smf_write.proofs.FileLaws.{tidy-refused, long-answer, room-answer, fine-answer, fine-leaves}
 use native.Mathlib.Omega.{arith}
 use mathlib.Core.Path.{_∙_, ap}
 use borrow.Author.Needs.{needs}
@@ -19,7 +19,7 @@ returns c = let s = c .before .before .before .before .args .file .now in
     let v = c .before .check .result in
     let judged = c .before .check .ensures .0 in
     let bytes = bytes-of s (λ i. omega (arith, c .before .before .before .shared-slice-known .given i)) in
-    (tidy-refused (length old) _ v judged (c .if1 .taken), refused-leaves _ v old judged (c .if1 .taken))
+    tidy-refused _ v old judged (c .if1 .taken)
 
 slice-relend-prefix-put-file : tie.Need-slice-relend-prefix-put-file
 slice-relend-prefix-put-file c = search needs
