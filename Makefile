@@ -6,6 +6,10 @@
 # make test      the gate: every test, then every proof from nothing
 # make bench     one table of times on a file of about 1 MiB: each operation beside the second program and,
 #                if installed, midicsv and csvmidi, and how our time grows (docs/PERFORMANCE.md)
+# make fuzz      TIME=300 SEED=1 FUNCTION=: fuzzes each exported function, or check, file_to_text,
+#                text_to_file or tidy alone, for so many seconds beside the second program
+# make fuzz-planted  that the fuzzer finds planted faults; some minutes
+# make soak      CASES=500000 SEED=0: the seeded comparison with the second program, so many cases
 # ARCHIVE=FILE   uses a proved library that is already built; then rt is not needed
 # BUILD=FOLDER   holds what is built here in place of target
 PROVED = target/staticlib/libnoferkash.a
@@ -26,7 +30,7 @@ COMPILE = $(CC) -std=c99 -Wall -Wextra -Wpedantic $(CPPFLAGS) $(CFLAGS) -Iinclud
 VERSION = $(shell sed -n 's/^.define NOFERKASH_VERSION "\(.*\)"/\1/p' include/noferkash.h)
 MAN = $(wildcard man/*.1 man/*.3 man/*.5)
 
-.PHONY: example tool install uninstall test bench clean
+.PHONY: example tool install uninstall test bench fuzz fuzz-planted soak clean
 # rt knows what has changed. But installing takes the library that is there: root may have no rt.
 ifneq ($(MAKECMDGOALS),install)
 .PHONY: $(PROVED)
@@ -90,9 +94,23 @@ uninstall:
 test:
 	.ci/run
 
+WITH_ARCHIVE = cd tests && NOFERKASH_ARCHIVE_DIR=$(dir $(abspath $(ARCHIVE))) \
+	    cargo run --release --offline --features archive --bin
+
 bench: $(ARCHIVE)
-	cd tests && NOFERKASH_ARCHIVE_DIR=$(dir $(abspath $(ARCHIVE))) \
-	    cargo run --release --offline --features archive --bin bench
+	$(WITH_ARCHIVE) bench
+
+fuzz: TIME = 300
+fuzz: $(ARCHIVE)
+	tests/fuzz/run $(abspath $(ARCHIVE)) $(TIME) $(FUNCTION)
+
+fuzz-planted: $(ARCHIVE)
+	tests/fuzz/planted $(abspath $(ARCHIVE))
+
+soak: CASES = 500000
+soak: SEED = 0
+soak: $(ARCHIVE)
+	$(WITH_ARCHIVE) differential -- $(CASES) $(SEED)
 
 clean:
 	rm -rf target tests/target

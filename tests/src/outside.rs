@@ -1,11 +1,16 @@
-//! The outside files of the folder `corpus`, and what midicsv and csvmidi make
-//! of them.
+//! The outside files of the folder `corpus`, what midicsv and csvmidi make of them,
+//! and the inputs that the fuzzer found worth keeping.
 
 use std::fs;
 use std::path::{Path, PathBuf};
 
 fn corpus() -> PathBuf {
-    Path::new(env!("CARGO_MANIFEST_DIR")).join("corpus")
+    folder("corpus")
+}
+
+/// A folder beside `src`.
+fn folder(name: &str) -> PathBuf {
+    Path::new(env!("CARGO_MANIFEST_DIR")).join(name)
 }
 
 /// Name without extension, and bytes, of each outside file, in order of names.
@@ -32,4 +37,15 @@ pub fn expected(name: &str, ending: &str) -> Vec<u8> {
 /// Document 01 refuses these (3 at 12), and csvmidi their text.
 pub fn has_film_division(name: &str) -> bool {
     name.contains("smpte")
+}
+
+/// What is stored of fuzzing, `files` or `texts`, in order of names; at least one.
+pub fn kept(kind: &str) -> Vec<Vec<u8>> {
+    let folder = folder("fuzz/kept").join(kind);
+    let entries = fs::read_dir(&folder).expect("the folder fuzz/kept");
+    let mut paths: Vec<PathBuf> =
+        entries.map(|entry| entry.expect("an entry of fuzz/kept").path()).collect();
+    paths.sort();
+    assert!(!paths.is_empty(), "nothing in {}", folder.display());
+    paths.iter().map(|path| fs::read(path).expect("a kept input")).collect()
 }

@@ -5,7 +5,7 @@ use std::collections::BTreeMap;
 use std::env;
 use std::fs;
 use std::ops::Range;
-use std::time::Instant;
+use std::time::{Duration, Instant};
 
 use crate::compare::{Difference, Met, Operation, Room};
 use crate::coverage::Coverage;
@@ -17,6 +17,8 @@ use crate::refusal::{Answer, Refusal};
 const SHOWN: u64 = 10;
 /// Texts over this size take long.
 const LONG: usize = 1 << 24;
+/// How often a run says how far it is.
+const PROGRESS: Duration = Duration::from_secs(60);
 /// The source whose accepted inputs are to hold all that `Coverage` has.
 pub const GENERATED: &str = "generated";
 /// Those to be met of an operation that takes a manner; in the first two every
@@ -34,7 +36,10 @@ pub struct Run<'a> {
     differences: u64,
     /// Of many differences only so many are shown and kept.
     shown: u64,
+    /// Too few cases to ask that all that is due was met.
+    few: bool,
     started: Instant,
+    said: Instant,
 }
 
 struct Source {
@@ -74,8 +79,15 @@ impl Run<'_> {
             aims: Vec::new(),
             differences: 0,
             shown: SHOWN,
+            few: false,
             started: Instant::now(),
+            said: Instant::now(),
         }
+    }
+
+    /// The same; if `few`, what was never met is said but is no fault of the run.
+    pub fn of_few(self, few: bool) -> Self {
+        Run { few, ..self }
     }
 
     /// The same, of which differences are only counted.
@@ -180,6 +192,7 @@ impl Run<'_> {
         compared: Result<Met, Difference>,
     ) -> Option<Met> {
         source.cases += 1;
+        self.progress(source);
         match compared {
             Ok(met) => {
                 let Met { number, room, manner, .. } = met;
@@ -195,6 +208,16 @@ impl Run<'_> {
                 }
                 None
             }
+        }
+    }
+
+    /// Says now and then how far a long run is.
+    fn progress(&mut self, source: &Source) {
+        if self.said.elapsed() >= PROGRESS {
+            let Source { name, cases, seeds, .. } = source;
+            let (of, due) = (self.operation.name, seeds.end - seeds.start);
+            eprintln!("{of}: {name}, {cases} of {due}, {} differences", self.differences);
+            self.said = Instant::now();
         }
     }
 
@@ -240,7 +263,11 @@ impl Run<'_> {
         let cases: u64 = self.sources.iter().map(|source| source.cases).sum();
         println!("{name}: {cases} cases, {} differences", self.differences);
         println!("{name}: never met: {missing:?} {unmet:?}, met but not due: {undue:?}");
-        self.differences == 0 && missing.is_empty() && undue.is_empty() && unmet.is_empty()
+        let all_met = missing.is_empty() && unmet.is_empty();
+        if self.few && !all_met {
+            println!("{name}: that is no fault here: the cases are too few to meet all");
+        }
+        self.differences == 0 && undue.is_empty() && (all_met || self.few)
     }
 
     /// Prints how often each kind of room was met; what was due of them but never

@@ -55,6 +55,22 @@ fn aims_that_were_never_met_are_missed() {
     assert!(!run.report(&due()), "the last aim was not tried");
 }
 
+/// A run asked for few cases is not to blame for what they did not meet, but for every
+/// difference.
+#[test]
+fn few_cases_need_not_meet_all() {
+    let report = |operation: &Operation, few: bool| {
+        let mut run = Run::of(operation).silent().of_few(few);
+        run.source(GENERATED, 0..500, text_case);
+        run.report(&due())
+    };
+    assert!(report(&GOOD, true));
+    assert!(!report(&GOOD, false), "no aim and not every number was met");
+    for (what, archive) in PLANTED.iter().take(2).copied() {
+        assert!(!report(&Operation { archive, ..GOOD }, true), "{what} is not seen");
+    }
+}
+
 /// The differences over twice as many texts as there are aims.
 fn differences(operation: &Operation) -> u64 {
     let aims = aims();

@@ -2,7 +2,8 @@
 //! program. Exit 0 when all answers are the same, every number, room, manner and aim
 //! due was met and no other number, the generated files and texts held all that is
 //! due, outside files and texts are converted as they must be, and what is converted
-//! forth and back is as it was.
+//! forth and back is as it was. With fewer cases than `CASES` what was never met is
+//! said, but is no fault.
 
 use std::env;
 use std::process::ExitCode;
@@ -14,14 +15,17 @@ use second::generate::{
     plain_text, text_case, text_limit_cases, Rng,
 };
 use second::operations;
-use second::outside::{expected, has_film_division, outside_files};
+use second::outside::{expected, has_film_division, kept, outside_files};
 use second::read_file::read_file;
 use second::read_text::read_text;
 use second::refusal::Answer;
 use second::run::{Run, GENERATED};
 
-const USAGE: &str = "usage: differential [CASES [FIRST_SEED]]";
+const USAGE: &str = "usage: differential [CASES [FIRST_SEED]], with CASES at least 1000";
+/// So many meet all that is due; 100,000 do not.
 const CASES: u64 = 500_000;
+/// With fewer some sources would have no case at all.
+const LEAST: u64 = 1_000;
 
 const CHECK: Operation = Operation::new(
     "check",
@@ -58,11 +62,12 @@ fn main() -> ExitCode {
     // Not 29 of tidy: a file that is read has at most 1,048,576 bytes, and manner 1
     // takes no more bytes than the spelling it had. So 29 counts as a fault here.
     let written: Vec<u8> = (0..=14).collect();
+    let few = cases < CASES;
     let good = [
-        on_files(Run::of(&CHECK), &read, cases, first),
-        on_files(Run::of(&TIDY), &written, cases / 2, first),
-        on_files(Run::holding(&TEXT, read_file), &written, cases / 4, first),
-        on_texts(cases / 4, first),
+        on_files(Run::of(&CHECK).of_few(few), &read, cases, first),
+        on_files(Run::of(&TIDY).of_few(few), &written, cases / 2, first),
+        on_files(Run::holding(&TEXT, read_file).of_few(few), &written, cases / 4, first),
+        on_texts(Run::holding(&FILE, read_text).of_few(few), cases / 4, first),
         outside_tidied(),
         tidied_twice(cases / 10, first),
         outside_texts(),
@@ -76,7 +81,7 @@ fn main() -> ExitCode {
     ExitCode::SUCCESS
 }
 
-/// CASES and FIRST_SEED, if all seeds fit.
+/// CASES and FIRST_SEED, if all seeds fit and no source is without cases.
 fn numbers_given() -> Option<(u64, u64)> {
     let mut given = Vec::new();
     for word in env::args().skip(1) {
@@ -88,7 +93,7 @@ fn numbers_given() -> Option<(u64, u64)> {
         [cases, first] => (cases, first),
         _ => return None,
     };
-    first.checked_add(cases).map(|_| (cases, first))
+    first.checked_add(cases).filter(|_| cases >= LEAST).map(|_| (cases, first))
 }
 
 /// Compares an operation that takes a file; `due` are the numbers to be met.
@@ -105,16 +110,16 @@ fn on_files(mut run: Run, due: &[u8], cases: u64, first: u64) -> bool {
         mutated_copy(&mut Rng::new(seed), &outside[(seed % count) as usize])
     });
     run.source("long", first..first + cases / 400, |seed| mutated_copy(&mut Rng::new(seed), &long));
+    on_kept(&mut run, "files");
     run.report(due)
 }
 
 /// Compares text_to_file.
-fn on_texts(cases: u64, first: u64) -> bool {
+fn on_texts(mut run: Run, cases: u64, first: u64) -> bool {
     let outside: Vec<Vec<u8>> =
         outside_files().iter().map(|(name, _)| expected(name, "csv")).collect();
     let long = made(archive::file_to_text, &benchmark_file()).expect("the benchmark's text");
 
-    let mut run = Run::holding(&FILE, read_text);
     run.source(GENERATED, first..first + cases, text_case);
     run.aimed("aimed", first..first + cases, &aims());
     run.limits("limits", &text_limit_cases());
@@ -124,8 +129,17 @@ fn on_texts(cases: u64, first: u64) -> bool {
         mutated_text(&mut Rng::new(seed), &outside[(seed % count) as usize])
     });
     run.source("long", first..first + cases / 400, |seed| mutated_text(&mut Rng::new(seed), &long));
+    on_kept(&mut run, "texts");
     let due: Vec<u8> = [0, 14].into_iter().chain(21..=30).collect();
     run.report(&due)
+}
+
+/// Compares on what the fuzzer found worth keeping, each in several manners and rooms.
+fn on_kept(run: &mut Run, kind: &str) {
+    const TIMES: u64 = 8;
+    let kept = kept(kind);
+    let cases = TIMES * kept.len() as u64;
+    run.source("kept", 0..cases, |seed| kept[(seed / TIMES) as usize].clone());
 }
 
 /// Outside files tidy to what csvmidi makes of their text, whatever their

@@ -1,0 +1,77 @@
+/* Faults planted in a program, each only where it is rare, to see that the fuzzer
+ * finds them. The environment's PLANTED names the fault, PLANTED_IN the program. */
+#include "programs.h"
+
+#include "../../include/noferkash.h"
+
+#include <stdlib.h>
+#include <string.h>
+
+static int is_planted(const char *fault, const char *program)
+{
+    const char *wanted = getenv("PLANTED");
+    const char *where = getenv("PLANTED_IN");
+
+    return wanted != NULL && where != NULL && strcmp(wanted, fault) == 0
+        && strcmp(where, program) == 0;
+}
+
+/* A refusal that few inputs meet: a value of a meta event, a step in Time. */
+static int is_rare_refusal(uint64_t answer)
+{
+    return NOFERKASH_NUMBER(answer) == NOFERKASH_BAD_META_VALUE
+        || NOFERKASH_NUMBER(answer) == NOFERKASH_STEP_TOO_GREAT;
+}
+
+/* A length written that few inputs have. */
+static int is_rare_success(uint64_t answer)
+{
+    return NOFERKASH_NUMBER(answer) == NOFERKASH_OK && NOFERKASH_LENGTH(answer) % 32 == 29;
+}
+
+/* Faults of a refusal. */
+static uint64_t spoil_refusal(const char *program, const struct call *call, uint64_t answer)
+{
+    volatile uint8_t *input = (volatile uint8_t *)call->input;
+
+    if (is_planted("answer", program))
+        answer ^= (uint64_t)1 << 28;
+    if (is_planted("refusal-writes", program) && call->room_length > 0)
+        call->room[call->room_length - 1] ^= 1;
+    if (is_planted("past-input", program))
+        answer += input[call->input_length] & 0;
+    if (is_planted("before-input", program))
+        answer += input[-1] & 0;
+    if (is_planted("input-written", program))
+        input[0] = input[0];
+    while (is_planted("endless", program))
+        ;
+    return answer;
+}
+
+/* Faults of a success. */
+static void spoil_success(const char *program, const struct call *call, uint64_t answer)
+{
+    size_t length = NOFERKASH_LENGTH(answer);
+    volatile uint8_t *room = call->room;
+
+    if (is_planted("byte", program))
+        room[length / 2] ^= 1;
+    if (is_planted("past-written", program) && call->room_length > length)
+        room[length] ^= 1;
+    if (is_planted("past-room", program))
+        room[call->room_length] ^= 1;
+    if (is_planted("before-room", program))
+        room[-1] ^= 1;
+}
+
+uint64_t spoil(const char *program, const struct call *call, uint64_t answer)
+{
+    if (is_rare_refusal(answer))
+        return spoil_refusal(program, call, answer);
+    if (is_rare_success(answer))
+        spoil_success(program, call, answer);
+    if (call->manner == 257 && is_planted("manner", program))
+        return 0;
+    return answer;
+}

@@ -1,0 +1,53 @@
+#include "programs.h"
+
+#include "../../include/noferkash.h"
+
+#define DECLARE(program) \
+    uint64_t program##_check(const uint8_t *, size_t); \
+    uint64_t program##_file_to_text(const uint8_t *, size_t, uint8_t *, size_t); \
+    uint64_t program##_text_to_file(const uint8_t *, size_t, uint32_t, uint8_t *, size_t); \
+    uint64_t program##_tidy(const uint8_t *, size_t, uint8_t *, size_t);
+
+DECLARE(second)
+#ifdef INSTRUMENTED
+DECLARE(instrumented)
+#endif
+
+/* The arguments of each function, from a struct call. */
+#define ARGUMENTS_check call->input, call->input_length
+#define ARGUMENTS_tidy ARGUMENTS_check, call->room, call->room_length
+#define ARGUMENTS_file_to_text ARGUMENTS_tidy
+#define ARGUMENTS_text_to_file ARGUMENTS_check, call->manner, call->room, call->room_length
+
+#define JOINED(a, b) a##b
+#define JOIN(a, b) JOINED(a, b)
+#define TEXT(word) #word
+#define SHOWN(word) TEXT(word)
+
+#ifndef PLANTED
+#define spoil(program, call, answer) (answer)
+#endif
+
+#define RUN(program) \
+    static uint64_t run_##program(const struct call *call) \
+    { \
+        return spoil(#program, call, JOIN(program##_, FUZZED)(JOIN(ARGUMENTS_, FUZZED))); \
+    }
+
+RUN(second)
+RUN(noferkash)
+#ifdef INSTRUMENTED
+RUN(instrumented)
+#else
+#define run_instrumented NULL
+#endif
+
+/* The facts of each function: manner, room, enough, text. */
+#define FACTS_check 0, 0, 0, 0
+#define FACTS_tidy 0, 1, 0, 0
+#define FACTS_file_to_text 0, 1, 25, 0
+#define FACTS_text_to_file 1, 1, 0, 1
+
+const struct function function = {
+    SHOWN(FUZZED), JOIN(FACTS_, FUZZED), run_second, run_noferkash, run_instrumented,
+};

@@ -1,0 +1,61 @@
+//! seeds FOLDER: writes the fuzzer's first inputs, FOLDER/files and FOLDER/texts:
+//! outside files and their texts, and what the generators of the second program make.
+//! Those longer than what the fuzzer makes are left out.
+
+use std::env;
+use std::fs;
+use std::io;
+use std::path::{Path, PathBuf};
+use std::process::ExitCode;
+
+use second::generate::{aims, file_case, text_case, Rng};
+use second::outside::{expected, outside_files};
+
+/// As long as the fuzzer's own inputs become (-max_len).
+const LONGEST: usize = 2_048;
+/// Of each generator; those that reach nothing new the fuzzer drops.
+const GENERATED: u64 = 2_000;
+
+fn main() -> ExitCode {
+    let Some(folder) = env::args().nth(1).map(PathBuf::from) else {
+        eprintln!("usage: seeds FOLDER");
+        return ExitCode::from(2);
+    };
+    match write_all(&folder) {
+        Ok((files, texts)) => {
+            println!("seeds: {files} files, {texts} texts in {}", folder.display());
+            ExitCode::SUCCESS
+        }
+        Err(error) => {
+            eprintln!("seeds: {}: {error}", folder.display());
+            ExitCode::FAILURE
+        }
+    }
+}
+
+/// How many files and texts were written.
+fn write_all(folder: &Path) -> io::Result<(usize, usize)> {
+    let outside = outside_files();
+    let generated = (0..GENERATED).map(|seed| (format!("generated-{seed}"), file_case(seed)));
+    let files = outside.iter().cloned().chain(generated);
+    let files = write(&folder.join("files"), files)?;
+
+    let stored = outside.iter().map(|(name, _)| (name.clone(), expected(name, "csv")));
+    let generated = (0..GENERATED).map(|seed| (format!("generated-{seed}"), text_case(seed)));
+    let aimed = aims()
+        .into_iter()
+        .enumerate()
+        .map(|(index, aim)| (format!("aimed-{index}"), aim.text(&mut Rng::new(index as u64)).text));
+    let texts = write(&folder.join("texts"), stored.chain(generated).chain(aimed))?;
+    Ok((files, texts))
+}
+
+fn write(folder: &Path, inputs: impl Iterator<Item = (String, Vec<u8>)>) -> io::Result<usize> {
+    fs::create_dir_all(folder)?;
+    let mut count = 0;
+    for (name, input) in inputs.filter(|(_, input)| input.len() <= LONGEST) {
+        fs::write(folder.join(name), input)?;
+        count += 1;
+    }
+    Ok(count)
+}
