@@ -3,7 +3,7 @@
 #                refusals, target/libnoferkash.a
 # make install   PREFIX=/usr/local DESTDIR=: header, library, pkg-config file, tool, man pages
 # make uninstall takes these away again
-# make test      the gate: every test, then every proof from nothing
+# make test      the gate: every proof from nothing, then every test
 # make bench     one table of times on a file of about 1 MiB: each operation beside the second program and,
 #                if installed, midicsv and csvmidi, and how our time grows (docs/PERFORMANCE.md)
 # make fuzz      TIME=300 SEED=1 FUNCTION=: fuzzes each exported function, or check, file_to_text,
