@@ -65,6 +65,7 @@ pub record Lawful (prev : ℕ) (e : Event) : Type 0 where
   pub bounded : e .time ≤ 4294967295
   pub fits : Fits (e .kind)
 
+-- whether it is End_track
 unfoldable pub isEnd : Kind → Bool
 isEnd (noteOff c k v) = false
 isEnd (noteOn c k v) = false

@@ -25,5 +25,6 @@ layFrame (exclusive s d) (lengthIn w) = s ∷ (vlq w (length d) ++ d)
 layFrame (meta t d) (leftOut out) = []
 layFrame (meta t d) (lengthIn w) = 0xff ∷ t ∷ (vlq w (length d) ++ d)
 
+-- an event after one at the Time prev: "its delta ..., then the bytes of its row in the table"
 unfoldable pub layEvent : ℕ → Event → Spelling → List ℕ
 layEvent prev e s = vlq (s .delta) (e .time - prev) ++ layFrame (frame (e .kind)) (s .rest)

@@ -9,6 +9,7 @@ use Rattle.event.specs.Event.{Event}
 use Rattle.event.specs.Frame.{Frame, channel1, channel2, exclusive, meta, frame}
 use Rattle.event.specs.Spelling.{Rest, leftOut, lengthIn, Spelling}
 
+-- "0 full (every status byte written), 1 short (a status left out wherever permitted)"
 pub data Manner : Type 0 where
   full short : Manner
 

@@ -4,6 +4,7 @@ use mathlib.Core.Bool.{_&&_}
 use lib.Dec.{leb, eqb}
 use Rattle.event.specs.Choice.{pick}
 
+-- the rows "FF 00 02" to "FF other type", one for the seven texts
 pub data MetaKind : Type 0 where
   sequenceKind textKind prefixKind portKind endKind tempoKind offsetKind timeKind keyKind specificKind unknownKind : MetaKind
 

@@ -21,6 +21,7 @@ readMore zero acc l = refused 5 0
 readMore (suc k) acc [] = refused 6 0
 readMore (suc k) acc (b ∷ l) = pick (ltb b 128) (ok (acc * 128 + b) l) (readMore k (acc * 128 + (b - 128)) l)
 
+-- "A variable-length number has 1 to 4 bytes"
 unfoldable pub readVlq : List ℕ → Outcome ℕ
 readVlq l = readMore 4 0 l
 
@@ -39,9 +40,11 @@ unfoldable pub dataByte : List ℕ → Outcome ℕ
 dataByte [] = refused 6 0
 dataByte (a ∷ l) = check (leb a 127) 9 0 (ok a l)
 
+-- "Cn p, Dn v": the data byte after the status s
 unfoldable pub oneData : ℕ → List ℕ → Outcome Frame
 oneData s l = andThen (dataByte l) (λ a r. ok (channel1 s a) r)
 
+-- "8n, 9n, An k v", "Bn c v", "En l m": "data bytes singly (6, 9)"
 unfoldable pub twoData : ℕ → List ℕ → Outcome Frame
 twoData s l = andThen (dataByte l) (λ a r. andThen (dataByte r) (λ b q. ok (channel2 s a b) q))
 
@@ -49,6 +52,7 @@ twoData s l = andThen (dataByte l) (λ a r. andThen (dataByte r) (λ b q. ok (ch
 unfoldable pub oneByte : ℕ → Bool
 oneByte s = leb 0xc0 s && leb s 0xdf
 
+-- the data bytes after the status s, written or in force
 unfoldable pub channelData : ℕ → List ℕ → Outcome Frame
 channelData s l = pick (oneByte s) (oneData s l) (twoData s l)
 
@@ -58,6 +62,7 @@ isChannel s = leb 0x80 s && leb s 0xef
 
 -- ---- system exclusive and meta events
 
+-- "F0, F7, then length, data": "length (6, 5), .. body (6)"
 unfoldable pub readExclusive : ℕ → List ℕ → Outcome Frame
 readExclusive s l = andThen (readVlq l) (λ n r. andThen (readData n r) (λ d q. ok (exclusive s d) q))
 
@@ -93,12 +98,14 @@ valueOk unknownKind d = true
 unfoldable pub metaData : ℕ → ℕ → List ℕ → Outcome Frame
 metaData t n l = andThen (readData n l) (λ d q. check (valueOk (kindOf t) d) 11 0 (ok (meta t d) q))
 
+-- after FF and the type t: "8", "length (6, 5), 10, body (6), 11"
 unfoldable pub readMetaOf : ℕ → List ℕ → Outcome Frame
 readMetaOf t l =
     check (leb t 127) 8 0
     (andThen (readVlq l) (λ n r.
     check (lengthOk (kindOf t) n) 10 0 (metaData t n r)))
 
+-- after FF: "status or meta type (6, 8)"
 unfoldable pub readMeta : List ℕ → Outcome Frame
 readMeta [] = refused 6 0
 readMeta (t ∷ l) = readMetaOf t l
@@ -116,9 +123,11 @@ readFrame force (b ∷ l) =
 
 -- ---- the kind and fields of what was read (of bytes that readFrame accepts: others do not come here)
 
+-- a key from its byte: "A key below 0 is written with 256 added"
 unfoldable pub keyOf : ℕ → Key
 keyOf b = pick (leb b 7) (sharps b) (flats (256 - b))
 
+-- the rows of two data bytes, by the status: "Pitch_bend_c: channel, 128·m + l"
 unfoldable pub kind2 : ℕ → ℕ → ℕ → Kind
 kind2 s a b =
     pick (leb s 0x8f) (noteOff (s % 16) a b)
@@ -126,6 +135,7 @@ kind2 s a b =
     (pick (leb s 0xaf) (polyAftertouch (s % 16) a b)
     (pick (leb s 0xbf) (control (s % 16) a b) (pitchBend (s % 16) (128 * b + a)))))
 
+-- the rows that begin with FF, by the type's row, the type and the data
 unfoldable pub metaOf : MetaKind → ℕ → List ℕ → Kind
 metaOf sequenceKind t d = sequenceNumber (number d)
 metaOf textKind t d = text t d
@@ -139,6 +149,7 @@ metaOf keyKind t d = keySignature (keyOf (getD d 0 0)) (getD d 1 0)
 metaOf specificKind t d = sequencerSpecific d
 metaOf unknownKind t d = unknownMeta t d
 
+-- the row of the table, by the shape of its bytes
 unfoldable pub kindIn : Frame → Kind
 kindIn (channel1 s a) = pick (leb s 0xcf) (program (s % 16) a) (channelAftertouch (s % 16) a)
 kindIn (channel2 s a b) = kind2 s a b
@@ -147,6 +158,7 @@ kindIn (meta t d) = metaOf (kindOf t) t d
 
 -- ---- an event, after one at the Time prev, with the status force in force; 7: "Time over 4,294,967,295"
 
+-- "Event: delta (per byte 6, then 5), 7, status or meta type .."
 unfoldable pub readEvent : ℕ → ℕ → List ℕ → Outcome Event
 readEvent prev force l =
     andThen (readVlq l) (λ d m.

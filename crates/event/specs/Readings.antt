@@ -12,10 +12,12 @@ pub data Reading : Type 0 where
   ofNumber : List ℕ → Outcome ℕ → Reading
   ofEvent : List ℕ → Outcome Kind → Reading
 
+-- reading those bytes gives that answer
 unfoldable pub Holds : Reading → Type 0
 Holds (ofNumber l a) = readVlq l ≡ a
 Holds (ofEvent l a) = andThen (readFrame noStatus l) (λ x r. ok (kindIn x) r) ≡ a
 
+-- "The starred cases form a single table under a single statement"
 unfoldable pub AllHold : List Reading → Type 0
 AllHold [] = Unit {0}
 AllHold (x ∷ xs) = Holds x × AllHold xs

@@ -13,6 +13,7 @@ pub data Rest : Type 0 where
   leftOut : Bool → Rest
   lengthIn : Width → Rest
 
+-- of an event: the bytes of its delta, and the rest
 pub record Spelling : Type 0 where
   pub delta : Width
   pub rest : Rest

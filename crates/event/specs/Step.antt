@@ -28,10 +28,12 @@ abbrev pub bytesFrom : ℕ → List ℕ → ℕ → List ℕ
 bytesFrom zero l i = []
 bytesFrom (suc k) l i = getD l i 0 ∷ bytesFrom k l (suc i)
 
+-- a variable-length number and the place after it, or the number of the refusal
 unfoldable pub numberStep : ℕ → Outcome ℕ → NumberStep
 numberStep n (ok v r) = Value v (n - length r)
 numberStep n (refused k p) = Unread k
 
+-- a data byte of a channel event and the place after it, or the number of the refusal
 unfoldable pub byteStep : ℕ → Outcome ℕ → ByteStep
 byteStep n (ok v r) = Byte v (n - length r)
 byteStep n (refused k p) = Bad k
@@ -86,6 +88,7 @@ endOf (UnknownMeta a b c) = false
 unfoldable pub frameAt : ℕ → Frame → FrameStep
 frameAt next x = Found (kindAt next (kindIn x)) next (after x)
 
+-- the same, or the number of the refusal
 unfoldable pub frameStep : ℕ → Outcome Frame → FrameStep
 frameStep n (ok x r) = frameAt (n - length r) x
 frameStep n (refused k p) = Refused k

@@ -9,6 +9,7 @@ use Rattle.smf.specs.Answer.{refusal}
 use Rattle.smf.specs.declared.Answer.{Answer}
 use Rattle.midicsv_write.specs.ToText.{textAnswer, textLeaves}
 
+-- "at most 16,384 bytes"
 abbrev pub inputLimit : ℕ
 inputLimit = 16384
 

@@ -32,6 +32,7 @@ escape c =
     (pick (eqb c 92) (92 ∷ 92 ∷ [])
     (pick (inOctal c) (92 ∷ (48 + c / 64) ∷ (48 + c / 8 % 8) ∷ (48 + c % 8) ∷ []) (c ∷ [])))
 
+-- the same of each byte of a text
 unfoldable pub escapeAll : List ℕ → List ℕ
 escapeAll [] = []
 escapeAll (c ∷ d) = escape c ++ escapeAll d
@@ -45,6 +46,7 @@ pub data Field : Type 0 where
   num minus : ℕ → Field
   name quoted : List ℕ → Field
 
+-- a field as it is written
 unfoldable pub show : Field → List ℕ
 show (num n) = decimal n
 show (minus n) = 45 ∷ decimal n
@@ -55,10 +57,12 @@ show (quoted d) = quote d
 abbrev pub joined : Field → List ℕ
 joined f = 44 ∷ 32 ∷ show f
 
+-- fields that follow another: a comma and a space before each
 unfoldable pub further : List Field → List ℕ
 further [] = []
 further (f ∷ fs) = joined f ++ further fs
 
+-- a record without its LF: "fields joined by comma and one space"
 unfoldable pub lineOf : List Field → List ℕ
 lineOf [] = []
 lineOf (f ∷ fs) = show f ++ further fs

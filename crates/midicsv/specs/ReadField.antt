@@ -85,6 +85,7 @@ readQuoted (c ∷ l) (octal2 n) = check (isOctal c) 22 0 (push (n * 8 + (c - 48)
 
 -- ---- names: "one or more ASCII letters and underscores"; the letters in front, of which there may be none here
 
+-- the letters and underscores in front, and what follows them
 unfoldable pub readName : List ℕ → Outcome (List ℕ)
 readName [] = ok [] []
 readName (c ∷ l) = pick (isLetter c) (push c (readName l)) (ok [] (c ∷ l))

@@ -14,6 +14,7 @@ pub record Values : Type 0 where
   pub columns : List ℕ
   pub body : List ℕ
 
+-- "Record and fields after Track, Time", with these two
 pub record Record : Type 0 where
   pub track : ℕ
   pub time : ℕ
@@ -29,6 +30,7 @@ columnField key b = pick (ltb b 8) (num b) (minus (256 - b))
 columnField mode m = pick (eqb m 0) (quoted (bytes "major")) (quoted (bytes "minor"))
 columnField freeType t = num t
 
+-- "Data..": a number for each byte
 unfoldable pub dataFields : List ℕ → List Field
 dataFields [] = []
 dataFields (b ∷ d) = num b ∷ dataFields d
@@ -39,11 +41,13 @@ tailFields none d = []
 tailFields oneText d = quoted d ∷ []
 tailFields sized d = num (length d) ∷ dataFields d
 
+-- the fields after the name: those of the columns, then those of the tail
 unfoldable pub fieldsOf : List Column → Tail → List ℕ → List ℕ → List Field
 fieldsOf [] t ns d = tailFields t d
 fieldsOf (c ∷ cs) t [] d = []
 fieldsOf (c ∷ cs) t (n ∷ ns) d = columnField c n ∷ fieldsOf cs t ns d
 
+-- Track, Time, name, then the fields of the name's shape
 unfoldable pub recordLine : Record → List ℕ
 recordLine r =
     lineOf (num (r .track) ∷ num (r .time) ∷ name (spelled (r .name))
@@ -74,9 +78,11 @@ nameOf (keySignature k m) = key-signature
 nameOf (sequencerSpecific d) = sequencer-specific
 nameOf (unknownMeta t d) = unknown-meta
 
+-- values without Text or Data
 abbrev pub plain : List ℕ → Values
 plain ns = record { columns = ns; body = [] }
 
+-- values with Text or Data
 abbrev pub bulk : List ℕ → List ℕ → Values
 bulk ns d = record { columns = ns; body = d }
 

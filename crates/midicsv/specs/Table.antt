@@ -11,6 +11,7 @@ pub data EventName : Type 0 where
   words : ℕ → EventName
   channel-prefix midi-port end-track set-tempo smpte-offset time-signature key-signature sequencer-specific unknown-meta : EventName
 
+-- "Header", "Start_track", "End_of_file", and the records of events
 pub data RecordName : Type 0 where
   header start-track end-of-file : RecordName
   event : EventName → RecordName
@@ -43,6 +44,7 @@ eventSpelled key-signature = bytes "Key_signature"
 eventSpelled sequencer-specific = bytes "Sequencer_specific"
 eventSpelled unknown-meta = bytes "Unknown_meta_event"
 
+-- "names spelled as above", of all records
 unfoldable pub spelled : RecordName → List ℕ
 spelled header = bytes "Header"
 spelled start-track = bytes "Start_track"
@@ -58,16 +60,20 @@ pub data Column : Type 0 where
 pub data Tail : Type 0 where
   none oneText sized : Tail
 
+-- the fields of a record after its name
 pub record Shape : Type 0 where
   pub columns : List Column
   pub tail : Tail
 
+-- columns alone
 abbrev numbers : List Column → Shape
 numbers cs = record { columns = cs; tail = none }
 
+-- a Text alone
 abbrev aText : Shape
 aText = record { columns = []; tail = oneText }
 
+-- columns, then "Length, Data.."
 abbrev aLength : List Column → Shape
 aLength cs = record { columns = cs; tail = sized }
 

@@ -15,6 +15,7 @@ mark n track = record { track = track; time = 0; name = n; values = plain [] }
 unfoldable pub eventRecord : ℕ → Event → Record
 eventRecord track e = record { track = track; time = e .time; name = event (nameOf (e .kind)); values = valuesOf (e .kind) }
 
+-- "its events, `n, T, End_track`": the last event is End_track
 unfoldable pub eventRecords : ℕ → List Event → List Record
 eventRecords track [] = []
 eventRecords track (e ∷ es) = eventRecord track e ∷ eventRecords track es
@@ -38,5 +39,6 @@ unfoldable pub recordsText : List Record → List ℕ
 recordsText [] = []
 recordsText (r ∷ rs) = recordLine r ++ (10 ∷ recordsText rs)
 
+-- THE text of a piece
 unfoldable pub textOf : Piece → List ℕ
 textOf p = recordsText (pieceRecords p)

@@ -2,7 +2,6 @@ pub mod QuotedLaws
 pub mod DataLaws
 pub mod NumberedLaws
 pub mod RowEventLaws
-pub mod PatchLaws
 pub mod FrameLaws
 pub mod CutLaws
 pub mod BytesSoFarLaws

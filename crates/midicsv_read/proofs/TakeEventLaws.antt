@@ -35,7 +35,7 @@ use Rattle.midicsv_read.specs.RowEvent.{eventKind, kindNumbered, statusA
 use Rattle.midicsv_read.specs.Progress.{eventsBytes, frontBytes, bytesOf, Inside, InTrack, Follows}
 use Rattle.midicsv_read.specs.declared.Progress.{Progress}
 use Rattle.midicsv_read.specs.declared.Step.the-variants.{Moved, Bad}
-use Rattle.midicsv_read.proofs.PatchLaws.{patch}
+use Rattle.event_write.proofs.PatchLaws.{patch}
 use Rattle.midicsv_read.proofs.BytesSoFarLaws.{last-time, last-force, inside-more, between-more}
 use Rattle.midicsv_read.proofs.RowEventLaws.{row-event, status-row, end-row}
 
@@ -197,7 +197,7 @@ module _ (m : Manner) (st : Progress) (out : List ℕ) (track time : ℕ) (v : V
       omega (arith, a .place, length-append (frontBytes m h ts) (bigEndian 4 0 ++ eventsBytes m es), length-append (bigEndian 4 0) (eventsBytes m es), length-bigEndian 4 0) in
       let b1 : Written mid (st .size) (bigEndian 4 (length (eventsBytes m es))) new next = subst (λ z. Written mid (st .size) (bigEndian 4 z) new next) size b in
       rw (between-more m h ts es)
-      (patch (frontBytes m h ts) (bigEndian 4 0) (bigEndian 4 (length (eventsBytes m es))) (eventsBytes m es) a b1 k (length-bigEndian 4 0 ∙ sym (length-bigEndian 4 _)))
+      (patch (frontBytes m h ts) (bigEndian 4 0) (bigEndian 4 (length (eventsBytes m es))) (eventsBytes m es) a b1 (omega (arith, k)) (length-bigEndian 4 0 ∙ sym (length-bigEndian 4 _)))
 
   pub event-ended : (x : RecordName) (mid new : List ℕ) (start n d at next : ℕ) → isEvent x ≡ true → Given n (said x) → n ≤ textLimit → InTrack st track time d
       → Written out (st .at) (headBytes m (st .force) d (kindNumbered x (v .columns) start (length (v .body))) ++ v .body) mid at

@@ -34,9 +34,11 @@ unfoldable pub lastForce : ℕ → List Event → ℕ
 lastForce force [] = force
 lastForce force (e ∷ es) = lastForce (after (frame (e .kind))) es
 
+-- the events of a track so far, in the manner
 unfoldable pub eventsBytes : Manner → List Event → List ℕ
 eventsBytes m es = layEvents 0 es (spellEvents m 0 noStatus es)
 
+-- the tracks that are ended, in the manner
 unfoldable pub tracksBytes : Manner → List (List Event) → List ℕ
 tracksBytes m ts = layTracks ts (spellTracks m ts)
 
@@ -57,6 +59,7 @@ bytesOf m (finished p) = fileOf m p
 
 -- ---- the numbers of the pass in a state
 
+-- between tracks: those of ts are ended, and the Header counts no fewer
 pub record Between (st : Progress) (h : Header) (ts : List (List Event)) : Type 0 where
   pub phase : st .phase ≡ 1
   pub count : st .count ≡ h .count
@@ -64,6 +67,7 @@ pub record Between (st : Progress) (h : Header) (ts : List (List Event)) : Type 
   pub most : length ts ≤ h .count
   pub few : h .count ≤ 65535
 
+-- in a track, after its events es: their last Time, the status in force, the place of the length
 pub record Inside (m : Manner) (st : Progress) (h : Header) (ts : List (List Event)) (es : List Event) (prev : ℕ) : Type 0 where
   pub phase : st .phase ≡ 2
   pub count : st .count ≡ h .count
@@ -75,6 +79,7 @@ pub record Inside (m : Manner) (st : Progress) (h : Header) (ts : List (List Eve
   pub force : st .force ≡ lastForce noStatus es
   pub size : st .size ≡ length (frontBytes m h ts)
 
+-- by the phase: 0 before the Header, 1 between tracks, 2 in a track, 3 after End_of_file
 abbrev pub Numbers : Manner → Progress → State → Type 0
 Numbers m st first = st .phase ≡ 0
 Numbers m st (between h ts) = Between st h ts
@@ -119,21 +124,27 @@ Near n (Bad k) = Unit {0}
 
 -- ---- the records
 
+-- the division of so many pulses
 abbrev pub divisionOf : ℕ → Division
 divisionOf n = record { pulses = n }
 
+-- what the definition does with a Header of the row's numbers
 abbrev pub headerStep : Row → State → Result State
 headerStep r = λ s. stepOn s header (r .track) (r .time) (plain (r .a ∷ r .b ∷ r .c ∷ []))
 
+-- with a Start_track
 abbrev pub startStep : Row → State → Result State
 startStep r = λ s. stepOn s start-track (r .track) (r .time) (plain [])
 
+-- with an End_of_file
 abbrev pub endStep : Row → State → Result State
 endStep r = λ s. stepOn s end-of-file (r .track) (r .time) (plain [])
 
+-- with the record of a row of the line l
 abbrev pub rowStep : List ℕ → Row → State → Result State
 rowStep l r = λ s. step s (recordIn l r)
 
+-- with the line l, passed over or not
 abbrev pub lineStep : List ℕ → State → Result State
 lineStep l = λ s. stepTold s (tellLine l)
 
@@ -155,6 +166,7 @@ pub record InTrack (st : Progress) (t u d : ℕ) : Type 0 where
 
 -- ---- all lines
 
+-- the length of the file of the text's piece, or the refusal with its line
 unfoldable pub passedAs : Manner → Outcome Piece → Passed
 passedAs m (ok p r) = Whole (length (fileOf m p))
 passedAs m (refused n line) = Stopped n line

@@ -23,6 +23,7 @@ unfoldable pub pieceAnswer : Manner → ℕ → Outcome Piece → Answer
 pieceAnswer m room (ok p r) = writeAnswer room (length (fileOf m p))
 pieceAnswer m room (refused n line) = refusal n line
 
+-- what the room holds afterwards: the file; on a refusal what it held
 unfoldable pub pieceLeaves : Manner → Outcome Piece → List ℕ → List ℕ
 pieceLeaves m (ok p r) old = writeLeaves (fileOf m p) old
 pieceLeaves m (refused n line) old = old

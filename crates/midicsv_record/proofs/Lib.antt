@@ -5,7 +5,11 @@ pub mod TextLaws
 mod WordLaws
 mod FieldInLaws
 mod FiveLaws
+mod InTurnLaws
 pub mod BodyLaws
 mod SizeLaws
 mod LineLaws
 mod NameLaws
+mod RecordLaws
+mod RefusalLaws
+mod AgreeLaws

@@ -1,6 +1,6 @@
 -- The tests of a line put in their order.
 use mathlib.Core.Path.{_≡_, refl, sym, _∙_, ap}
-use Prim.Native.Nat.{ℕ, _+_, _-_, _<_, _≤_}
+use Prim.Native.Nat.{ℕ, _+_, _<_, _≤_}
 use mathlib.Core.Bool.{Bool, true, false}
 use mathlib.Core.List.{List, [], _∷_}
 use native.Mathlib.Omega.{arith}
@@ -10,76 +10,28 @@ use borrow.Author.Tests.{le-leb, lt-leb}
 use Rattle.event.specs.Choice.{pick}
 use Rattle.event.specs.Outcome.{ok, valueOr}
 use Rattle.midicsv.specs.Field.{Field, num, name}
-use Rattle.midicsv.specs.Table.{eventSpelled, spelled, RecordName, header, start-track, end-of-file, event, range, Tail, none, oneText, sized, shape}
+use Rattle.midicsv.specs.Table.{eventSpelled, spelled, RecordName, header, start-track, end-of-file, event, Tail, none, oneText, sized, shape}
 use Rattle.midicsv.specs.ReadField.{allFields}
 use Rattle.midicsv.specs.Result.{Result, good, bad, next, test}
 use Rattle.midicsv.specs.Names.{sameName, find, nameFrom}
 use Rattle.smf.specs.Piece.{tracksFit}
-use Rattle.midicsv.specs.ReadRecord.{sizeOf, counted, readColumn, readTail, readColumns, together, withValues, recordOf, ofFields, readLine}
+use Rattle.midicsv.specs.ReadRecord.{sizeOf, counted, together, recordOf, ofFields, readLine}
 use Rattle.midicsv_scan.specs.FieldStep.{Counted, FieldIs}
-use Rattle.midicsv_record.specs.Row.{nameAt, nameAs, bodyIn, columnsIn, recordIn}
+use Rattle.midicsv_record.specs.Row.{nameAt, nameAs}
 use Rattle.midicsv_record.specs.Table.{columnsAt, tailAt}
-use Rattle.midicsv_record.specs.Column.{fieldIn, fieldsIn, laterIn, Fit}
+use Rattle.midicsv_record.specs.Column.{fieldIn, fieldsIn, laterIn}
 use Rattle.midicsv_record.specs.Line.{Fields, sizeIn, valuesOf, rowIn, namedIn}
 use Rattle.midicsv_scan.specs.declared.FieldStep.{FieldStep}
 use Rattle.midicsv_scan.specs.declared.FieldCount.the-variants.{Count}
-use Rattle.midicsv_record.specs.declared.Row.{Row}
-use Rattle.midicsv_record.specs.declared.ColumnsStep.the-variants.{Five}
 use Rattle.midicsv_record.proofs.FieldInLaws.{field-in}
-use Rattle.midicsv_record.proofs.FiveLaws.{column-bad}
-
--- ---- the values
-
-module _ (n : RecordName) (a b : Field) (fs : List Field) where
-  pub track-bad : bad 25 ≡ readColumn (range 0 65535) a → bad 25 ≡ valuesOf n a b fs
-  unfolding valuesOf next
-  track-bad e = rw (← e) refl
-
-  pub time-bad : bad 25 ≡ readColumn (range 0 4294967295) b → bad 25 ≡ valuesOf n a b fs
-  unfolding valuesOf next
-  time-bad e = sym (column-bad _ (λ track. rw (← e) refl) (range 0 65535) a)
-
-  pub columns-bad : readColumns (shape n .columns) (shape n .tail) fs ≡ bad 25 → bad 25 ≡ valuesOf n a b fs
-  unfolding valuesOf next
-  columns-bad e = sym (column-bad _ (λ track. column-bad _ (λ time. rw e refl) (range 0 4294967295) b) (range 0 65535) a)
-
-  values-good : (track time : ℕ) → good track ≡ readColumn (range 0 65535) a → good time ≡ readColumn (range 0 4294967295) b
-      → valuesOf n a b fs ≡ next (readColumns (shape n .columns) (shape n .tail) fs) (withValues track time n)
-  unfolding valuesOf next
-  values-good track time e f = rw (← e, ← f) refl
-
--- a tail that refuses
-pub tail-bad : (n : RecordName) (fs : List Field) (a b c d e : ℕ) → Fit (shape n .columns) fs (Five a b c d e)
-    → bad 25 ≡ readTail (shape n .tail) (drop (length (shape n .columns)) fs) → readColumns (shape n .columns) (shape n .tail) fs ≡ bad 25
-unfolding Fit next
-tail-bad n fs a b c d e f z = f (shape n .tail) ∙ rw (← z) refl
 
 -- the Header alone asks for more
-together-cut : (n : RecordName) (a b c d e : ℕ) → together n (take (length (shape n .columns)) (a ∷ b ∷ c ∷ d ∷ e ∷ [])) ≡ together n (a ∷ b ∷ c ∷ d ∷ e ∷ [])
+pub together-cut : (n : RecordName) (a b c d e : ℕ) → together n (take (length (shape n .columns)) (a ∷ b ∷ c ∷ d ∷ e ∷ [])) ≡ together n (a ∷ b ∷ c ∷ d ∷ e ∷ [])
 unfolding together shape
 together-cut header a b c d e = refl
 together-cut start-track a b c d e = refl
 together-cut end-of-file a b c d e = refl
 together-cut (event g) a b c d e = refl
-
--- the record so read
-module _ (l : List ℕ) (r : Row) (x : List ℕ) (fs : List Field) where
-  whole : Fit (columnsAt (r .name)) fs (Five (r .a) (r .b) (r .c) (r .d) (r .e)) → good x ≡ readTail (tailAt (r .name)) (drop (length (columnsAt (r .name))) fs)
-      → next (readColumns (columnsAt (r .name)) (tailAt (r .name)) fs) (withValues (r .track) (r .time) (nameAt (r .name)))
-      ≡ test (together (nameAt (r .name)) (r .a ∷ r .b ∷ r .c ∷ r .d ∷ r .e ∷ [])) 25
-      (good (record { track = r .track; time = r .time; name = nameAt (r .name); values = record { columns = columnsIn r; body = x } }))
-  unfolding Fit next withValues
-  whole f z = rw (f (tailAt (r .name)), ← z, together-cut (nameAt (r .name)) (r .a) (r .b) (r .c) (r .d) (r .e)) refl
-
-  module _ (f : Fit (columnsAt (r .name)) fs (Five (r .a) (r .b) (r .c) (r .d) (r .e))) (z : good x ≡ readTail (tailAt (r .name)) (drop (length (columnsAt (r .name))) fs))
-      (y : bodyIn (tailAt (r .name)) l (r .start) (r .len) ≡ x) (a b : Field) (p : good (r .track) ≡ readColumn (range 0 65535) a) (q : good (r .time) ≡ readColumn (range 0 4294967295) b) where
-    pub row-good : true ≡ together (nameAt (r .name)) (r .a ∷ r .b ∷ r .c ∷ r .d ∷ r .e ∷ []) → good (recordIn l r) ≡ valuesOf (nameAt (r .name)) a b fs
-    unfolding test
-    row-good t = sym (values-good (nameAt (r .name)) a b fs (r .track) (r .time) p q ∙ whole f z ∙ rw (← t, y) refl)
-
-    pub row-apart : false ≡ together (nameAt (r .name)) (r .a ∷ r .b ∷ r .c ∷ r .d ∷ r .e ∷ []) → bad 25 ≡ valuesOf (nameAt (r .name)) a b fs
-    unfolding test
-    row-apart t = sym (values-good (nameAt (r .name)) a b fs (r .track) (r .time) p q ∙ whole f z ∙ rw (← t) refl)
 
 -- ---- a name without the Header's rule
 
@@ -113,11 +65,11 @@ module _ {A : Type 0} where
 
 pub size-wrong : (l : List ℕ) (n number : ℕ) → n ≤ 28 → bad number ≡ sizeIn n (laterIn l) → bad number ≡ namedIn l (nameAs n)
 unfolding namedIn nameAs sizeIn pick next
-size-wrong l n number h e = sym (rw (le-leb n 28 h, counted-next (length (columnsAt n)) (tailAt n) (laterIn l) (length (laterIn l) - (length (columnsAt n) + 1)) (rowIn l (nameAt n)), ← e) refl)
+size-wrong l n number h e = sym (rw (le-leb n 28 h, counted-next (length (columnsAt n)) (tailAt n) (laterIn l) 0 (rowIn l (nameAt n)), ← e) refl)
 
 pub size-right : (l : List ℕ) (n len : ℕ) → n ≤ 28 → good len ≡ sizeIn n (laterIn l) → rowIn l (nameAt n) ≡ namedIn l (nameAs n)
 unfolding namedIn nameAs sizeIn pick next
-size-right l n len h e = sym (rw (le-leb n 28 h, counted-next (length (columnsAt n)) (tailAt n) (laterIn l) (length (laterIn l) - (length (columnsAt n) + 1)) (rowIn l (nameAt n)), ← e) refl)
+size-right l n len h e = sym (rw (le-leb n 28 h, counted-next (length (columnsAt n)) (tailAt n) (laterIn l) 0 (rowIn l (nameAt n)), ← e) refl)
 
 pub name-wrong : (l : List ℕ) (n : ℕ) → 28 < n → bad 23 ≡ namedIn l (nameAs n)
 unfolding namedIn nameAs pick next

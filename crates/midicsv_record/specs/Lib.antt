@@ -3,5 +3,5 @@ pub mod Row
 pub mod Table
 pub mod TextState
 pub mod Column
-pub mod Body
 pub mod Line
+pub mod InTurn

@@ -1,6 +1,6 @@
 -- The tests of a line from its count of fields on, one after the other as the code makes them.
 use mathlib.Core.Path.{_≡_}
-use Prim.Native.Nat.{ℕ, _+_, _-_, _≤_}
+use Prim.Native.Nat.{ℕ, _≤_}
 use mathlib.Core.Bool.{Bool}
 use mathlib.Core.List.{List, [], _∷_}
 use lib.ListN.{length, getD}
@@ -23,20 +23,14 @@ pub record Fields (l : List ℕ) (count : ℕ) : Type 0 where
   pub counts : length (fieldsIn l) ≡ count
   pub three : 3 ≤ count
 
--- the fields after the name counted: the Length, or 24 or 25
+-- the fields after the name counted: as many as the name n and its Length want, or 24 or 25
 unfoldable pub sizeIn : ℕ → List Field → Result ℕ
-sizeIn n fs = counted (length (columnsAt n)) (tailAt n) fs (good (length fs - (length (columnsAt n) + 1)))
+sizeIn n fs = counted (length (columnsAt n)) (tailAt n) fs (good 0)
 
+-- the same of the answer
 unfoldable pub sizeAs : SizeStep → Result ℕ
-sizeAs (Fits len) = good len
+sizeAs Fits = good 0
 sizeAs (Off number) = bad number
-
--- a line whose fields are all good, of a listed name, with as many fields as its name and its Length want
-pub record Measured (l : List ℕ) (n len : ℕ) : Type 0 where
-  pub listed : n ≤ 28
-  pub fields : allFields l ≡ ok (fieldsIn l) []
-  pub three : 3 ≤ length (fieldsIn l)
-  pub size : sizeIn n (laterIn l) ≡ good len
 
 -- the record n of the fields a of Track, b of Time and fs after the name
 unfoldable pub valuesOf : RecordName → Field → Field → List Field → Result Record

@@ -53,6 +53,7 @@ bodyIn sized l start len = dataFrom len (drop start l)
 abbrev pub columnsIn : Row → List ℕ
 columnsIn r = take (length (shape (nameAt (r .name)) .columns)) (r .a ∷ r .b ∷ r .c ∷ r .d ∷ r .e ∷ [])
 
+-- the record that a row of the line l stands for
 abbrev pub recordIn : List ℕ → Row → Record
 recordIn l r =
     record {
@@ -62,6 +63,7 @@ recordIn l r =
       values = record { columns = columnsIn r; body = bodyIn (shape (nameAt (r .name)) .tail) l (r .start) (r .len) };
     }
 
+-- the record, or the number of the refusal
 unfoldable pub lineAs : List ℕ → LineStep → Result Record
 lineAs l (Wrong number) = bad number
 lineAs l (Parsed r) = good (recordIn l r)

@@ -11,9 +11,11 @@ use Rattle.midicsv_record.specs.declared.ColumnKind.the-variants.{Range,
 use Rattle.midicsv_record.specs.declared.TailKind.{TailKind}
 use Rattle.midicsv_record.specs.declared.TailKind.the-variants.{NoTail, OneText, Sized}
 
+-- the columns of the name n
 abbrev pub columnsAt : ℕ → List Column
 columnsAt n = shape (nameAt n) .columns
 
+-- what follows the columns of the name n
 abbrev pub tailAt : ℕ → Tail
 tailAt n = shape (nameAt n) .tail
 
@@ -25,6 +27,7 @@ columnAs Mode = mode ∷ []
 columnAs FreeType = freeType ∷ []
 columnAs NoColumn = []
 
+-- nothing, a Text, or "Length, Data.."
 unfoldable pub tailAs : TailKind → Tail
 tailAs NoTail = none
 tailAs OneText = oneText

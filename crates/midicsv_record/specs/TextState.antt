@@ -9,6 +9,7 @@ use Rattle.midicsv_record.specs.declared.TextState.the-variants.{Plain, 
 use Rattle.midicsv_record.specs.declared.TextStep.{TextStep}
 use Rattle.midicsv_record.specs.declared.TextStep.the-variants.{Nothing, Byte, Closed}
 
+-- what has just been passed, as the definition has it
 unfoldable pub seenAs : TextState → Seen
 seenAs Plain = plain
 seenAs Quote = aQuote
@@ -24,6 +25,7 @@ Small Slash = Unit {0}
 Small (One n) = n < 256
 Small (Two n) = n < 4096
 
+-- the same of the state after a step
 unfoldable pub SmallStep : TextStep → Type 0
 SmallStep (Nothing p) = Small p
 SmallStep (Byte b p) = Small p

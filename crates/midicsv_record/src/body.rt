@@ -1,36 +1,34 @@
 // Where a record's Text or Data stand in the line.
 ghost use mathlib.Core.Path.{_≡_};
 ghost use mathlib.Core.List.{[]};
-ghost use Prim.Native.Nat.{_+_, _<_, _≤_};
-ghost use lib.ListN.{length, getD, drop};
-ghost use Rattle.event.specs.Outcome.{ok};
-ghost use Rattle.midicsv.specs.Field.{num};
+ghost use Prim.Native.Nat.{_+_, _≤_};
+ghost use lib.ListN.{length, drop};
 ghost use Rattle.midicsv.specs.Table.{oneText, sized};
-ghost use Rattle.midicsv.specs.ReadField.{allFields};
-ghost use Rattle.midicsv.specs.ReadRecord.{readText, readBytes, readTail};
-ghost use Rattle.midicsv_record.specs.Table.{columnsAt, tailAt};
-ghost use Rattle.midicsv_record.specs.Column.{fieldsIn, laterIn};
-ghost use Rattle.midicsv_record.specs.Body.{areBytes, bodyAs, Inside};
-ghost use Rattle.midicsv_record.specs.Line.{Measured};
+ghost use Rattle.midicsv_record.specs.Table.{tailAt};
+ghost use Rattle.midicsv_record.specs.InTurn.{lastAfter, tailStepAs, TailInside, DataEnd};
+use super::ColumnStep;
 use super::TailKind;
 use super::TailStep;
-use super::table::column_count;
+use super::column::number_of;
+use super::in_turn::field_after;
+use super::in_turn::place_after;
 use super::table::tail_kind;
 use midicsv_scan::FieldStep;
-use midicsv_scan::field::field_at;
-use midicsv_scan::fields::field;
-use midicsv_scan::fields::field_place;
 
-// A Text: the field so numbered must be quoted.
-fn text_start(line: &[u8], i: usize) -> TailStep
-    requires { ⌜ allFields (now line) ≡ ok (fieldsIn (now line)) [] ⌝ ∗ ⌜ i < length (fieldsIn (now line)) ⌝ }
-    ensures { λ r. ⌜ bodyAs oneText (now (line .entry)) 0 r ≡ readText (getD (fieldsIn (now (line .entry))) i (num 0)) ⌝ ∗ ⌜ Inside (now (line .entry)) r ⌝ }
+// A Text: the field after a comma must be quoted, and the last.
+fn text_after(line: &[u8], comma: usize) -> TailStep
+    ensures { λ r. ⌜ tailStepAs oneText (now (line .entry)) r ≡ lastAfter oneText (drop comma (now (line .entry))) ⌝ ∗ ⌜ TailInside (now (line .entry)) r ⌝ }
 {
-    match field(line, i) {
+    match field_after(line, comma) {
         FieldStep::Number { .. } => TailStep::Unfit,
         FieldStep::Minus { .. } => TailStep::Unfit,
         FieldStep::Name { .. } => TailStep::Unfit,
-        FieldStep::Quoted { start, .. } => TailStep::Start(start),
+        FieldStep::Quoted { start, next } => {
+            if next < line.len() {
+                return TailStep::Unfit;
+            }
+            TailStep::Start { start, len: 0 }
+        }
         FieldStep::BadField => TailStep::Unfit,
     }
 }
@@ -45,20 +43,19 @@ pub fn after_comma(line: &[u8], comma: usize) -> usize
     line.len()
 }
 
-// Whether the len fields from a place on are all data bytes.
-fn are_bytes(line: &[u8], start: usize, len: usize) -> bool
-    requires { ⌜ start ≤ length (now line) ⌝ }
-    ensures { λ r. ⌜ r ≡ areBytes len (drop start (now (line .entry))) ⌝ }
+// Whether the len fields after a comma are all data bytes, and the last of them ends the line.
+fn are_data(line: &[u8], comma: usize, len: usize) -> bool
+    ensures { λ r. ⌜ DataEnd len (drop comma (now (line .entry))) r ⌝ }
 {
-    let mut at = start;
+    let mut at = comma;
     let mut left = len;
     while 0 < left {
-        match field_at(line, at) {
+        match field_after(line, at) {
             FieldStep::Number { value, next } => {
                 if 255 < value {
                     return false;
                 }
-                at = after_comma(line, next);
+                at = next;
                 left = left - 1;
             }
             FieldStep::Minus { .. } => return false,
@@ -67,29 +64,39 @@ fn are_bytes(line: &[u8], start: usize, len: usize) -> bool
             FieldStep::BadField => return false,
         }
     }
-    true
+    line.len() <= at
 }
 
-// Data: the fields from the one so numbered on, to the last.
-fn data_start(line: &[u8], i: usize, len: usize) -> TailStep
-    requires { ⌜ allFields (now line) ≡ ok (fieldsIn (now line)) [] ⌝ ∗ ⌜ i + len ≡ length (fieldsIn (now line)) ⌝ }
-    ensures { λ r. ⌜ bodyAs sized (now (line .entry)) len r ≡ readBytes (drop i (fieldsIn (now (line .entry)))) ⌝ ∗ ⌜ Inside (now (line .entry)) r ⌝ }
+// Length and Data: the fields after a comma, to the last.
+fn sized_after(line: &[u8], comma: usize) -> TailStep
+    ensures { λ r. ⌜ tailStepAs sized (now (line .entry)) r ≡ lastAfter sized (drop comma (now (line .entry))) ⌝ ∗ ⌜ TailInside (now (line .entry)) r ⌝ }
 {
-    let start = field_place(line, i);
-    if are_bytes(line, start, len) {
-        return TailStep::Start(start);
+    let f = field_after(line, comma);
+    let ColumnStep::Value(v) = number_of(f) else {
+        return TailStep::Unfit;
+    };
+    let next = place_after(f);
+    let len = v as usize;
+    if are_data(line, next, len) {
+        let start = after_comma(line, next);
+        return TailStep::Start { start, len };
     }
     TailStep::Unfit
 }
 
-// The Text or the Data of a record; 0 where it has neither.
-pub fn tail_of(line: &[u8], name: u8, len: usize) -> TailStep
-    requires { ⌜ Measured (now line) name len ⌝ }
-    ensures { λ r. ⌜ bodyAs (tailAt name) (now (line .entry)) len r ≡ readTail (tailAt name) (drop (length (columnsAt name)) (laterIn (now (line .entry)))) ⌝ ∗ ⌜ Inside (now (line .entry)) r ⌝ }
+// The Text or the Data of a record, of the fields after a comma, which must end the line.
+pub fn tail_after(line: &[u8], comma: usize, name: u8) -> TailStep
+    requires { ⌜ name ≤ 28 ⌝ }
+    ensures { λ r. ⌜ tailStepAs (tailAt name) (now (line .entry)) r ≡ lastAfter (tailAt name) (drop comma (now (line .entry))) ⌝ ∗ ⌜ TailInside (now (line .entry)) r ⌝ }
 {
     match tail_kind(name) {
-        TailKind::NoTail => TailStep::Start(0),
-        TailKind::OneText => text_start(line, 3 + column_count(name)),
-        TailKind::Sized => data_start(line, 4 + column_count(name), len),
+        TailKind::NoTail => {
+            if comma < line.len() {
+                return TailStep::Unfit;
+            }
+            TailStep::Start { start: 0, len: 0 }
+        }
+        TailKind::OneText => text_after(line, comma),
+        TailKind::Sized => sized_after(line, comma),
     }
 }

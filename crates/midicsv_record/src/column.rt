@@ -3,24 +3,18 @@ ghost use mathlib.Core.Path.{_≡_};
 ghost use mathlib.Core.Bool.{_&&_};
 ghost use lib.Dec.{leb};
 ghost use Rattle.event.specs.Meta.{kindOf};
-ghost use Prim.Native.Nat.{_≤_};
 ghost use lib.ListN.{drop};
 ghost use Rattle.midicsv.specs.Field.{quoted};
 ghost use Rattle.midicsv.specs.ReadField.{plain};
 ghost use Rattle.midicsv.specs.Table.{range, key, mode, freeType};
 ghost use Rattle.midicsv.specs.ReadRecord.{sizeOf, isFree, readColumn};
 ghost use Rattle.midicsv_scan.specs.Unquoted.{unquoted};
-ghost use Rattle.midicsv_record.specs.Table.{columnsAt, columnAs, readFirst};
-ghost use Rattle.midicsv_record.specs.Column.{fieldIn, valueAs, Reads, laterIn, Ready, Fit, ColumnRead, ColumnsRead};
+ghost use Rattle.midicsv_record.specs.Table.{columnAs, readFirst};
+ghost use Rattle.midicsv_record.specs.Column.{fieldIn, valueAs, Reads};
 use super::ColumnKind;
 use super::ColumnStep;
-use super::ColumnsStep;
-use super::table::column_at;
-use super::table::column_count;
 use super::text::is_word;
 use midicsv_scan::FieldStep;
-use midicsv_scan::fields::field;
-use midicsv_scan::fields::field_place;
 
 // A number without a minus.
 pub fn number_of(f: FieldStep) -> ColumnStep
@@ -145,48 +139,4 @@ pub fn value_in(line: &[u8], f: FieldStep, column: ColumnKind) -> ColumnStep
         ColumnKind::FreeType => free_type(f),
         ColumnKind::NoColumn => ColumnStep::Value(0),
     }
-}
-
-// The number of the column so numbered from 0, of the fields after the name; 0 past the last.
-fn column(later: &[u8], name: u8, i: usize) -> ColumnStep
-    requires { ⌜ name ≤ 28 ⌝ }
-    ensures { λ r. ⌜ ColumnRead (now (later .entry)) name i r ⌝ }
-{
-    // no field is looked for where there is no column
-    if column_count(name) <= i {
-        return ColumnStep::Value(0);
-    }
-    value_in(later, field(later, i), column_at(name, i))
-}
-
-// The numbers of all columns, of the fields after the name; no record has more than five.
-fn five_columns(later: &[u8], name: u8) -> ColumnsStep
-    requires { ⌜ name ≤ 28 ⌝ }
-    ensures { λ r. ⌜ ColumnsRead (now (later .entry)) name r ⌝ }
-{
-    let ColumnStep::Value(a) = column(later, name, 0) else {
-        return ColumnsStep::Misfit;
-    };
-    let ColumnStep::Value(b) = column(later, name, 1) else {
-        return ColumnsStep::Misfit;
-    };
-    let ColumnStep::Value(c) = column(later, name, 2) else {
-        return ColumnsStep::Misfit;
-    };
-    let ColumnStep::Value(d) = column(later, name, 3) else {
-        return ColumnsStep::Misfit;
-    };
-    let ColumnStep::Value(e) = column(later, name, 4) else {
-        return ColumnsStep::Misfit;
-    };
-    ColumnsStep::Five { a, b, c, d, e }
-}
-
-// The numbers of all columns. Fields are found from the name on, and not each from the line's start.
-pub fn columns_of(line: &[u8], name: u8) -> ColumnsStep
-    requires { ⌜ Ready (now line) name ⌝ }
-    ensures { λ r. ⌜ Fit (columnsAt name) (laterIn (now (line .entry))) r ⌝ }
-{
-    let start = field_place(line, 3);
-    five_columns(&line[start..], name)
 }

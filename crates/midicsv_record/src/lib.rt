@@ -3,8 +3,11 @@ mod name; // name.rt: the names of records
 mod table; // table.rt: the columns and the tail of each record
 pub mod text; // text.rt: a quoted text beside a word
 mod column; // column.rt: fields beside their columns
+mod in_turn; // in_turn.rt: the fields of a line in turn, and the columns
 pub mod body; // body.rt: where Text and Data stand
-pub mod line; // line.rt: the record of a line
+mod record; // record.rt: the record of a line that has no fault
+mod refusal; // refusal.rt: the refusal of a line that has one
+pub mod line; // line.rt: the record of a line, or its refusal
 
 // A record: its name by its number in the list of names, Track, Time, up to five numbers (0 past
 // those that the name has), and where in the line its Text begins, after the quote, or its Data;
@@ -66,7 +69,13 @@ pub enum ColumnStep {
     OutOfRange,
 }
 
-// The numbers of a record's columns, 0 past the last; or 25.
+// The number of a column and the place after its field; or a fault.
+enum CellStep {
+    Cell(u32, usize),
+    NoCell,
+}
+
+// The numbers of a record's columns, 0 past the last, and the place after their fields; or a fault.
 pub enum ColumnsStep {
     Five {
         a: u32,
@@ -74,18 +83,25 @@ pub enum ColumnsStep {
         c: u32,
         d: u32,
         e: u32,
+        next: usize,
     },
     Misfit,
 }
 
-// The Length (0 where a record has none) of a line with the right number of fields; or 24 or 25.
-pub enum SizeStep {
-    Fits(usize),
+// That a line has as many fields as its name and its Length want; or 24 or 25.
+enum SizeStep {
+    Fits,
     Off(u8),
 }
 
-// Where the Text or the Data begin, or 25.
+// Where the Text or the Data begin, and how many Data there are; or a fault.
 pub enum TailStep {
-    Start(usize),
+    Start { start: usize, len: usize },
     Unfit,
+}
+
+// The record of a line, or that the line has a fault.
+enum RowStep {
+    Taken(Row),
+    Faulty,
 }

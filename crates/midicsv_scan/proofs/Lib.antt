@@ -2,5 +2,5 @@ pub mod UnquotedLaws
 mod NumberLaws
 mod TextLaws
 mod EndLaws
-mod FieldLaws
+pub mod FieldLaws
 mod FieldsLaws

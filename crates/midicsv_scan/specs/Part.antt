@@ -25,16 +25,19 @@ abbrev pub EndWithin : List ℕ → ℕ → PartEnd → Type 0
 EndWithin l at (At q) = (at ≤ q) × (q ≤ length l)
 EndWithin l at Nowhere = Unit {0}
 
+-- of a run of digits
 abbrev pub DigitsWithin : List ℕ → ℕ → DigitRun → Type 0
 DigitsWithin l at (Digits value next) = (at ≤ next) × (next ≤ length l)
 DigitsWithin l at TooMany = Unit {0}
 
+-- of a number
 abbrev pub NumberWithin : List ℕ → ℕ → NumberEnd → Type 0
 NumberWithin l at (Value value next) = (at ≤ next) × (next ≤ length l)
 NumberWithin l at NoNumber = Unit {0}
 
 -- ---- blanks
 
+-- "Spaces and tabs round a field are dropped": those from at on end at p
 pub record Skipped (l : List ℕ) (at p : ℕ) : Type 0 where
   pub low : at ≤ p
   pub high : p ≤ length l
@@ -42,10 +45,12 @@ pub record Skipped (l : List ℕ) (at p : ℕ) : Type 0 where
 
 -- ---- numbers
 
+-- a run of digits and what follows it, or 22 for an 11th digit
 unfoldable pub digitsAs : List ℕ → DigitRun → Outcome ℕ
 digitsAs l (Digits value next) = ok value (drop next l)
 digitsAs l TooMany = refused 22 0
 
+-- a number and what follows it, or 22
 unfoldable pub numberAs : List ℕ → NumberEnd → Outcome ℕ
 numberAs l (Value value next) = ok value (drop next l)
 numberAs l NoNumber = refused 22 0
@@ -71,6 +76,7 @@ turnAs c l (On to) = ending (readQuoted l (seenOf to))
 turnAs c l Ended = ok 0 (c ∷ l)
 turnAs c l Broken = refused 22 0
 
+-- r is what the byte c does after look, whatever follows
 abbrev pub Turned : Look → ℕ → Turn → Type 0
 Turned look c r = (l : List ℕ) → turnAs c l r ≡ ending (readQuoted (c ∷ l) (seenOf look))
 
@@ -81,6 +87,7 @@ textAs l at Nowhere = refused 22 0
 
 -- ---- names
 
+-- the letters from at on end at p
 pub record NameEnds (l : List ℕ) (at p : ℕ) : Type 0 where
   pub low : at ≤ p
   pub high : p ≤ length l
@@ -93,6 +100,7 @@ unfoldable pub closedAs : Field → List ℕ → PartEnd → Outcome Field
 closedAs f l (At q) = ok f (drop q l)
 closedAs f l Nowhere = refused 22 0
 
+-- r is where a field that ends at `at` is closed: "Spaces and tabs round a field are dropped"
 abbrev pub Closes : List ℕ → ℕ → PartEnd → Type 0
 Closes l at r = (f : Field) → closedAs f l r ≡ finish f (drop at l)
 
@@ -100,12 +108,15 @@ Closes l at r = (f : Field) → closedAs f l r ≡ finish f (drop at l)
 unfoldable pub quotedField : List ℕ → Outcome Field
 quotedField l = andThen (readQuoted l plain) (λ d r. finish (quoted d) r)
 
+-- after a minus
 unfoldable pub minusField : List ℕ → Outcome Field
 minusField l = andThen (readNumber l) (λ n r. finish (negative n) r)
 
+-- from the first digit on
 unfoldable pub numberField : List ℕ → Outcome Field
 numberField l = andThen (readNumber l) (λ n r. finish (num n) r)
 
+-- from the first letter on
 unfoldable pub nameField : List ℕ → Outcome Field
 nameField l = andThen (readName l) (λ s r. finish (name s) r)
 

@@ -43,7 +43,7 @@ pub fn count_fields(line: &[u8]) -> FieldCount
 }
 
 // Where the field so numbered from 0 begins, in a line whose fields are all good.
-pub fn field_place(line: &[u8], i: usize) -> usize
+fn field_place(line: &[u8], i: usize) -> usize
     ensures { λ r. ⌜ Begins (now (line .entry)) i r ⌝ }
 {
     let mut at = 0;

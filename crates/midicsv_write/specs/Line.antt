@@ -15,10 +15,11 @@ use Rattle.midicsv.specs.Text.{recordsText}
 abbrev pub eventFrom : Time → List ℕ → EventKind → Event
 eventFrom t body k = record { time = t .0; kind = kindFrom body k }
 
--- the fields of its columns, and those of its Text, or Length and Data
+-- the fields of its columns
 abbrev pub columnFields : Kind → List Field
 columnFields k = fieldsOf (eventShape (nameOf k) .columns) none (valuesOf k .columns) []
 
+-- the fields of its Text, or of its Length and Data
 abbrev pub bodyFields : Kind → List Field
 bodyFields k = tailFields (eventShape (nameOf k) .tail) (valuesOf k .body)
 

@@ -3,6 +3,7 @@ use mathlib.Core.Path.{_≡_}
 use Prim.Native.Nat.{ℕ, _+_, _*_, _/_, _%_, _^_}
 use Rattle.smf.specs.declared.Answer.{Answer}
 
+-- the 64-bit number of an answer
 abbrev pub packed : Answer → ℕ
 packed a = a .number * 2 ^ 56 + a .place * 2 ^ 28 + a .length
 
@@ -10,9 +11,11 @@ packed a = a .number * 2 ^ 56 + a .place * 2 ^ 28 + a .length
 abbrev pub numberOf : ℕ → ℕ
 numberOf r = r / 2 ^ 56
 
+-- bits 28 to 55
 abbrev pub placeOf : ℕ → ℕ
 placeOf r = r / 2 ^ 28 % 2 ^ 28
 
+-- bits 0 to 27
 abbrev pub lengthOf : ℕ → ℕ
 lengthOf r = r % 2 ^ 28
 

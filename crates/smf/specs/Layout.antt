@@ -14,6 +14,7 @@ use Rattle.smf.specs.Spelling.{PieceSpelling, PermittedPiece}
 abbrev pub headerTag : ℕ
 headerTag = 0x4D546864
 
+-- "`MTrk`"
 abbrev pub trackTag : ℕ
 trackTag = 0x4D54726B
 
@@ -27,11 +28,13 @@ layEvents prev (e ∷ es) (s ∷ ss) = layEvent prev e s ++ layEvents (e .time) 
 unfoldable pub layTrack : List Event → List Spelling → List ℕ
 layTrack es ss = bigEndian 4 trackTag ++ (bigEndian 4 (length (layEvents 0 es ss)) ++ layEvents 0 es ss)
 
+-- "As many tracks as counted, nothing between or after"
 unfoldable pub layTracks : List (List Event) → List (List Spelling) → List ℕ
 layTracks [] ss = []
 layTracks (t ∷ ts) [] = []
 layTracks (t ∷ ts) (s ∷ ss) = layTrack t s ++ layTracks ts ss
 
+-- "division", a 16-bit number
 unfoldable pub layDivision : Division → List ℕ
 layDivision d = bigEndian 2 (d .pulses)
 

@@ -27,6 +27,7 @@ eventCounts (t ∷ ts) = length t ∷ eventCounts ts
 unfoldable pub hasRoom : ℕ → ℕ → ℕ → Bool
 hasRoom n m k = leb k n && leb k m
 
+-- "the length is the track count, and a shorter list is 14 with that count"
 unfoldable pub listAnswer : ℕ → ℕ → Outcome Piece → Answer
 listAnswer n m (ok p r) = pick (hasRoom n m (length (p .tracks))) (success (length (p .tracks))) (roomNeeded (length (p .tracks)))
 listAnswer n m (refused k q) = refusal k q

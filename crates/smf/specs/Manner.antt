@@ -9,14 +9,17 @@ use Rattle.smf.specs.Piece.{Piece}
 use Rattle.smf.specs.Spelling.{PieceSpelling}
 use Rattle.smf.specs.Layout.{layPiece}
 
+-- the events of a track after the Time prev, with the status force in force
 unfoldable pub spellEvents : Manner → ℕ → ℕ → List Event → List Spelling
 spellEvents m prev force [] = []
 spellEvents m prev force (e ∷ es) = spellEvent m prev force e ∷ spellEvents m (e .time) (after (frame (e .kind))) es
 
+-- "Track start .. leave no status in force"
 unfoldable pub spellTracks : Manner → List (List Event) → List (List Spelling)
 spellTracks m [] = []
 spellTracks m (t ∷ ts) = spellEvents m 0 noStatus t ∷ spellTracks m ts
 
+-- of a piece
 unfoldable pub spelling : Manner → Piece → PieceSpelling
 spelling m p = record { tracks = spellTracks m (p .tracks) }
 

@@ -12,6 +12,7 @@ use Rattle.event.specs.Event.{Event, Lawful, isEnd}
 pub record Division : Type 0 where
   pub pulses : ℕ
 
+-- "A piece is a format, a division and a list of tracks"
 pub record Piece : Type 0 where
   pub format : ℕ
   pub division : Division
@@ -37,6 +38,7 @@ unfoldable pub LawfulEvents : ℕ → List Event → Type 0
 LawfulEvents prev [] = ⊥
 LawfulEvents prev (e ∷ es) = Lawful prev e × Ends (isEnd (e .kind)) es (LawfulEvents (e .time) es)
 
+-- each track, from the Time 0 on
 unfoldable pub LawfulTracks : List (List Event) → Type 0
 LawfulTracks [] = Unit {0}
 LawfulTracks (t ∷ ts) = LawfulEvents 0 t × LawfulTracks ts

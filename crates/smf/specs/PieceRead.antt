@@ -34,6 +34,7 @@ eventsRead (suc n) body (Read t k next status) =
     ∷ untilEnd (endOf k) (eventsRead n body (eventStep (length body) (readEvent (t .0) status (drop next body))))
 eventsRead (suc n) body (Stop number) = []
 
+-- "from the first byte after the track's length to End_track", with no status in force at first
 unfoldable pub trackRead : List ℕ → List Event
 trackRead body = eventsRead (suc (length body)) body (eventStep (length body) (readEvent 0 noStatus body))
 
@@ -55,5 +56,6 @@ pieceFrom f (Fields format count division next) =
     }
 pieceFrom f (BadHeader number place) = record { format = 0; division = record { pulses = 0 }; tracks = [] }
 
+-- "The piece read from an accepted file"
 unfoldable pub pieceRead : List ℕ → Piece
 pieceRead f = pieceFrom f (headerStep (length f) (readHeader f))

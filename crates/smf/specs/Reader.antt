@@ -67,9 +67,11 @@ readTracks (suc n) at l =
 unfoldable pub countOk : ℕ → ℕ → Bool
 countOk format n = leb 1 n && tracksFit format n
 
+-- "division 1..32767"
 unfoldable pub divisionOk : ℕ → Bool
 divisionOk n = leb 1 n && leb n 32767
 
+-- "Header, 14 bytes", and the refusals 2 (under 14) and 3 with their places
 unfoldable pub readHeader : List ℕ → Outcome Header
 readHeader f =
     check (leb 14 (length f)) 2 0
@@ -98,5 +100,6 @@ readPiece f =
 abbrev pub fileLimit : ℕ
 fileLimit = 1048576
 
+-- "File: 1, 2 (under 14), 3", then the rest
 unfoldable pub readFile : List ℕ → Outcome Piece
 readFile f = check (leb (length f) fileLimit) 1 0 (readPiece f)

@@ -5,11 +5,13 @@ use mathlib.Core.List.{List, [], _∷_}
 use Rattle.event.specs.Outcome.{refused}
 use Rattle.smf.specs.Reader.{readFile}
 
+-- a file, and the number and place of its refusal
 pub record Slip : Type 0 where
   pub file : List ℕ
   pub number : ℕ
   pub place : ℕ
 
+-- each file of the list is so refused
 unfoldable pub AllRefused : List Slip → Type 0
 AllRefused [] = Unit {0}
 AllRefused (x ∷ xs) = (readFile (x .file) ≡ refused (x .number) (x .place)) × AllRefused xs
@@ -37,6 +39,7 @@ pastEnd =
     ∷ 0x4D ∷ 0x54 ∷ 0x72 ∷ 0x6B ∷ 0x00 ∷ 0x00 ∷ 0x00 ∷ 0x05
     ∷ 0x00 ∷ 0xFF ∷ 0x2F ∷ 0x00 ∷ 0x00 ∷ []
 
+-- the table
 abbrev pub slips : List Slip
 slips =
     record { file = overMeta; number = 8; place = 30 }

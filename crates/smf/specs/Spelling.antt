@@ -6,6 +6,7 @@ use Rattle.event.specs.Frame.{frame, after, noStatus}
 use Rattle.event.specs.Spelling.{Spelling, Permitted}
 use Rattle.smf.specs.Piece.{Piece}
 
+-- for each track of a piece the spellings of its events
 pub record PieceSpelling : Type 0 where
   pub tracks : List (List Spelling)
 
@@ -25,5 +26,6 @@ PermittedTracks [] (s ∷ ss) = ⊥
 PermittedTracks (t ∷ ts) [] = ⊥
 PermittedTracks (t ∷ ts) (s ∷ ss) = PermittedEvents 0 noStatus t s × PermittedTracks ts ss
 
+-- "It is permitted when ..", for the whole piece
 unfoldable pub PermittedPiece : Piece → PieceSpelling → Type 0
 PermittedPiece p s = PermittedTracks (p .tracks) (s .tracks)

@@ -37,6 +37,7 @@ unfoldable pub walkStep : ℕ → ℕ → Outcome (List Event) → WalkStep
 walkStep prev n (ok es r) = Whole (record { 0 = lastTime prev es }) (n + length es)
 walkStep prev n (refused k p) = Fault k p
 
+-- a track: the Time of its End_track, the number of its events, the place after it
 unfoldable pub trackStep : ℕ → Outcome (List Event) → TrackStep
 trackStep n (ok es r) = Track (record { 0 = lastTime 0 es }) (length es) (n - length r)
 trackStep n (refused k p) = BadTrack k p

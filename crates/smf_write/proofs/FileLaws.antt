@@ -11,7 +11,9 @@ use Rattle.event.specs.Bytes.{Bytes, bigEndian}
 use Rattle.event.specs.Manner.{Manner, short}
 use Rattle.event.specs.Outcome.{Outcome, Readable, valueOr}
 use Rattle.event_write.specs.Written.{Written}
-use Rattle.event_write.proofs.WriteLaws.{put-whole, then, after-measure, measured}
+use Rattle.event_write.proofs.WriteLaws.{put-whole, then}
+use Rattle.event_write.proofs.PatchLaws.{patch}
+use Rattle.event.proofs.BytesLaws.{length-bigEndian}
 use Rattle.smf.specs.Piece.{Piece}
 use Rattle.smf.specs.Layout.{trackTag, layHeader, layTracks, layPiece}
 use Rattle.smf.specs.Manner.{spellTracks, spelling, fileOf}
@@ -102,8 +104,9 @@ module _ (s : List ℕ) (there : AcceptedFile s) where
 
 -- ---- what is written in a row
 
-pub track-written : {out one two new part : List ℕ} {at p q next size : ℕ} (body : List ℕ) → Written [] 0 body part size → Written (part ++ out) at (bigEndian 4 trackTag) one p
-    → Written one p (bigEndian 4 size) two q → Written two q body new next → Written out at (bigEndian 4 trackTag ++ (bigEndian 4 (length body) ++ body)) new next
-track-written {out} {one} {two} {new} {part} {at} {p} {q} {next} {size} body m a b c =
-    let n : size ≡ length body = measured m in
-    then (after-measure m a) (then (subst (λ z. Written one p (bigEndian 4 z) two q) n b) c)
+pub track-written : {out one two mid new : List ℕ} {at p q end last : ℕ} (body : List ℕ) → Written out at (bigEndian 4 trackTag) one p → Written one p (bigEndian 4 0) two q
+    → Written two q body mid end → Written mid p (bigEndian 4 (end - q)) new last → Written out at (bigEndian 4 trackTag ++ (bigEndian 4 (length body) ++ body)) new end
+track-written {out} {one} {two} {mid} {new} {at} {p} {q} {end} {last} body a b c d =
+    let n : end - q ≡ length body = omega (arith, c .place) in
+    patch (bigEndian 4 trackTag) (bigEndian 4 0) (bigEndian 4 (length body)) body (then a (then b c))
+    (subst (λ z. Written mid p (bigEndian 4 z) new last) n d) (a .place) (length-bigEndian 4 0 ∙ sym (length-bigEndian 4 (length body)))

@@ -14,10 +14,12 @@ use Rattle.smf.specs.Answer.{refusal}
 use Rattle.smf.specs.Writing.{writeAnswer, writeLeaves}
 use Rattle.smf.specs.declared.Answer.{Answer}
 
+-- the answer, for a room of so many bytes and the file as it is read
 unfoldable pub tidyAnswer : ℕ → Outcome Piece → Answer
 tidyAnswer room (ok p r) = writeAnswer room (length (fileOf short p))
 tidyAnswer room (refused n q) = refusal n q
 
+-- what the room holds afterwards: the manner 1 file; on a refusal what it held
 unfoldable pub tidyLeaves : Outcome Piece → List ℕ → List ℕ
 tidyLeaves (ok p r) old = writeLeaves (fileOf short p) old
 tidyLeaves (refused n q) old = old
@@ -28,9 +30,11 @@ tidyLeaves (refused n q) old = old
 abbrev pub eventsIn : Manner → ℕ → ℕ → List Event → List ℕ
 eventsIn m prev force es = layEvents prev es (spellEvents m prev force es)
 
+-- a track with its tag and length
 abbrev pub trackIn : Manner → List Event → List ℕ
 trackIn m es = layTrack es (spellEvents m 0 noStatus es)
 
+-- the tracks of a piece
 abbrev pub tracksIn : Manner → List (List Event) → List ℕ
 tracksIn m ts = layTracks ts (spellTracks m ts)
 

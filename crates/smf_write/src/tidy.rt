@@ -87,15 +87,18 @@ fn put_events(out: &mut [u8], from: usize, body: &[u8], short: bool) -> usize
     }
 }
 
-// A track's chunk: the number of bytes its events take, and those bytes.
+// A track's chunk: the number of bytes its events take, and those bytes. The number is known when they are
+// written, and is then written over the zero that stood for it.
 fn put_track(out: &mut [u8], at: usize, body: &[u8], short: bool) -> usize
     requires { ⌜ at < 2 ^ 39 ⌝ ∗ ⌜ length (now body) ≤ 1048576 ⌝ ∗ ⌜ Readable (readAll 0 0 0 (now body)) ⌝ }
     ensures { λ r. ⌜ Written (now (out .entry)) at (trackIn (mannerOf short) (valueOr [] (readAll 0 0 0 (now (body .entry))))) (now (out .exit)) r ⌝ }
 {
-    let size = put_events(&mut out[..0], 0, body, short);
     let p = put_four(out, at, 0x4D54726B);
-    let q = put_four(out, p, size as u32);
-    put_events(out, q, body, short)
+    let q = put_four(out, p, 0);
+    let end = put_events(out, q, body, short);
+    let size = (end - q) as u32;
+    put_four(out, p, size);
+    end
 }
 
 // So many tracks from a place of the file on, which are known to read.
