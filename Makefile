@@ -66,8 +66,8 @@ $(LIBRARY): $(BUILD)/refusal_words.o $(ARCHIVE) $(BUILD)/archive
 	$(AR) rs $@.new $(BUILD)/refusal_words.o
 	mv $@.new $@
 
-$(TOOL): tools/noferkash.c tools/read.c tools/write.c tools/tool.h include/noferkash.h $(LIBRARY)
-	$(COMPILE) $(LDFLAGS) -o $@ tools/noferkash.c tools/read.c tools/write.c $(LIBRARY)
+$(TOOL): $(filter-out tools/refusal_words.c,$(wildcard tools/*.c)) $(wildcard tools/*.h) include/noferkash.h $(LIBRARY)
+	$(COMPILE) $(LDFLAGS) -o $@ $(filter-out tools/refusal_words.c,$(wildcard tools/*.c)) $(LIBRARY)
 
 $(BUILD)/convert_file: examples/convert_file.c include/noferkash.h $(LIBRARY)
 	$(COMPILE) $(LDFLAGS) -o $@ examples/convert_file.c $(LIBRARY)

@@ -1,31 +1,41 @@
 /* Input of the command line tool. */
-#include <errno.h>
+#define _XOPEN_SOURCE 700
+
 #include <stdio.h>
 #include <stdlib.h>
-#include <string.h>
+#include <sys/stat.h>
+#include <unistd.h>
 
 #include "tool.h"
 
-static int failed(const char *name) {
-    fprintf(stderr, "noferkash: %s: %s\n", input_name(name), strerror(errno));
+static int failed(const char *name, FILE *stream) {
+    say_failed(input_name(name));
+    if (stream != NULL) {
+        fclose(stream);
+    }
     return 0;
 }
 
-int read_input(const char *name, size_t limit, struct bytes *input) {
+int read_input(const char *name, size_t limit, struct bytes *input, struct identity *identity) {
     input->length = 0;
     input->at = malloc(limit + 1);
     if (input->at == NULL) {
-        return failed(name);
+        return failed(name, NULL);
+    }
+    if (is_standard(name) && isatty(STDIN_FILENO)) {
+        fprintf(stderr, "%s: reading standard input (a file's name may be given; Ctrl-D ends)\n",
+                program);
     }
     FILE *stream = is_standard(name) ? stdin : fopen(name, "rb");
-    if (stream == NULL) {
-        return failed(name);
+    struct stat status;
+    if (stream == NULL || fstat(fileno(stream), &status) != 0) {
+        return failed(name, stream);
     }
+    identity->device = status.st_dev;
+    identity->number = status.st_ino;
     input->length = fread(input->at, 1, limit + 1, stream);
     if (ferror(stream)) {
-        failed(name);
-        fclose(stream);
-        return 0;
+        return failed(name, stream);
     }
     /* Nothing can be lost in closing what was only read. */
     fclose(stream);

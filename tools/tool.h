@@ -5,10 +5,35 @@
 #include <stddef.h>
 #include <stdint.h>
 #include <string.h>
+#include <sys/types.h>
+
+/* Exit statuses: of several files the greatest counts. */
+enum outcome { GOOD = 0, REFUSED = 1, FAILED = 2 };
+
+enum command { CHECK, TO_TEXT, TO_MIDI, TIDY, COMMANDS };
 
 struct bytes {
     uint8_t *at;
     size_t length;
+};
+
+/* Tells whether two names lead to one file. */
+struct identity {
+    dev_t device;
+    ino_t number;
+};
+
+/* What the command line asks for. Where `folder` is NULL there is one name at
+ * most but for check, and `out` is where it goes. */
+struct request {
+    enum command command;
+    uint32_t manner;
+    int force;
+    int verbose;
+    const char *folder;
+    const char *out;
+    char **names;
+    size_t count;
 };
 
 /* Whether the name of a file stands for a standard stream. */
@@ -21,13 +46,71 @@ static inline const char *input_name(const char *name) {
     return is_standard(name) ? "standard input" : name;
 }
 
-/* Reads all of a file or of standard input, but no more than one byte over the
- * limit: that byte is enough for the library to see that the input is too long.
- * 0, with a line on standard error, if it cannot be read. */
-int read_input(const char *name, size_t limit, struct bytes *input);
+/* arguments.c. Takes the command line apart; its operands move within argv. WRONG has
+ * had its line on standard error, HELPED what it asked for. */
+enum taken { WRONG, TAKEN, HELPED };
+enum taken take_arguments(int argc, char **argv, struct request *request);
+/* The command line of midicsv (to-text) or csvmidi (to-midi). */
+enum taken take_midicsv_arguments(int argc, char **argv, enum command command,
+                                  struct request *request);
 
-/* Writes all of the bytes to a file or to standard output. 0, with a line on
- * standard error, if that failed; an old file of that name is then as it was. */
-int write_output(const char *name, const void *bytes, size_t length);
+/* help.c. The number of the command of that name; COMMANDS if there is none. */
+enum command command_named(const char *name);
+/* The text for one command, or where it is COMMANDS for all of them. */
+const char *help_for(enum command command);
+const char *midicsv_help_for(enum command command);
+
+/* run.c */
+enum outcome run(const struct request *request);
+
+/* read.c. Reads all of a file or of standard input, but no more than one byte
+ * over the limit: that byte is enough for the library to see that the input is
+ * too long. 0, with a line on standard error, if it cannot be read. */
+int read_input(const char *name, size_t limit, struct bytes *input, struct identity *identity);
+
+/* The files that a run reads, and those that it has written. */
+struct files {
+    struct identity *at;
+    size_t count;
+};
+
+/* folder.c. Where in the folder stands what the command makes of the file `name`. To
+ * be freed; NULL, with errno set, where there is no memory. */
+char *name_in_folder(const char *folder, const char *name, enum command command);
+int is_folder(const char *name);
+/* 0, with a line on standard error, if it is neither there nor can be made. */
+int make_folder(const char *folder);
+
+/* output.c. Writes what was made to the file `name` or to standard output, if
+ * that may be; `own` is the file that was read. FAILED, with a line on standard
+ * error, leaves what stood there. A file that was written joins `files`. */
+enum outcome put_output(const struct request *request, const char *name, struct bytes made,
+                        const struct identity *own, struct files *files);
+
+/* write.c. Each answers 0, with errno set, if it failed. */
+int write_standard_output(const void *bytes, size_t length);
+int write_through(const char *path, struct bytes bytes);
+/* In place of the file `old`, or where `old` is NULL and nothing is there. */
+struct stat;
+int write_file(const char *path, const struct stat *old, struct bytes bytes,
+               struct identity *written);
+
+/* say.c. What the program is called in its messages. */
+extern const char *program;
+/* "noferkash: WHAT WORD HINT; noferkash --help says more", without further spaces;
+ * the word is the user's. Answers 0. */
+int wrong_usage(const char *what, const char *word, const char *hint);
+/* "noferkash: NAME: " and the reason that errno has. Answers 0. */
+int say_failed(const char *name);
+/* "noferkash: NAME WHAT". Answers 0. */
+int say_kept(const char *name, const char *what);
+/* "NAME: WHAT" on standard error. */
+void say_of_file(const char *name, const char *what);
+/* "NAME: WHAT" on standard output, or "WHAT" where name is NULL. 0, with a line on
+ * standard error, if that failed. */
+int print_of_file(const char *name, const char *what);
+/* On a terminal, how far a run over several files is. Every line wipes it. */
+void show_count(size_t done, size_t all);
+void wipe_count(void);
 
 #endif

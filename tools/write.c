@@ -1,11 +1,10 @@
-/* Output of the command line tool. */
-#define _XOPEN_SOURCE 700
+/* Writes files whole or not at all. */
+#define _GNU_SOURCE
 
 #include <errno.h>
 #include <fcntl.h>
 #include <stdio.h>
 #include <stdlib.h>
-#include <string.h>
 #include <sys/stat.h>
 #include <unistd.h>
 
@@ -40,6 +39,16 @@ static int close_after(int file, int good) {
     return good;
 }
 
+int write_standard_output(const void *bytes, size_t length) {
+    return close_after(STDOUT_FILENO, write_all(STDOUT_FILENO, bytes, length));
+}
+
+/* A device or a named pipe: renaming would put a file in its place. */
+int write_through(const char *path, struct bytes bytes) {
+    int file = open(path, O_WRONLY);
+    return file >= 0 && close_after(file, write_all(file, bytes.at, bytes.length));
+}
+
 /* A new file in the folder of `path`, since a file is renamed only within a file
  * system. The name has nothing of the old name, which may be as long as names
  * can be. */
@@ -64,9 +73,31 @@ static int take_after(int file, const struct stat *old) {
     return fchmod(file, old->st_mode & 0777) == 0;
 }
 
+/* Renames only where nothing stands: a file that came there since we looked is
+ * nobody's to replace. Some file systems cannot do that, and then it is as
+ * little as the look before. */
+static int rename_new(const char *from, const char *to) {
+    if (renameat2(AT_FDCWD, from, AT_FDCWD, to, RENAME_NOREPLACE) == 0) {
+        return 1;
+    }
+    return (errno == EINVAL || errno == ENOSYS) && rename(from, to) == 0;
+}
+
+static int fill(int file, const struct stat *old, struct bytes bytes, struct identity *written) {
+    struct stat status;
+    if (fstat(file, &status) != 0) {
+        return 0;
+    }
+    written->device = status.st_dev;
+    written->number = status.st_ino;
+    return (old == NULL || take_after(file, old)) && write_all(file, bytes.at, bytes.length) &&
+           fsync(file) == 0;
+}
+
 /* Writes under a new name and renames that, so that whatever fails leaves the
  * old file whole, and nobody ever sees half of the new one. */
-static int replace(const char *path, const struct stat *old, const uint8_t *bytes, size_t length) {
+int write_file(const char *path, const struct stat *old, struct bytes bytes,
+               struct identity *written) {
     size_t room = strlen(path) + NAME_ROOM;
     char *name = malloc(room);
     if (name == NULL) {
@@ -76,9 +107,8 @@ static int replace(const char *path, const struct stat *old, const uint8_t *byte
     int file = create_beside(path, old == NULL ? 0666 : 0600, name, room);
     int good = file >= 0;
     if (good) {
-        good = (old == NULL || take_after(file, old)) && write_all(file, bytes, length) &&
-               fsync(file) == 0;
-        good = close_after(file, good) && rename(name, path) == 0;
+        good = close_after(file, fill(file, old, bytes, written)) &&
+               (old == NULL ? rename_new(name, path) : rename(name, path) == 0);
         if (!good) {
             int reason = errno;
             unlink(name);
@@ -86,39 +116,5 @@ static int replace(const char *path, const struct stat *old, const uint8_t *byte
         }
     }
     free(name);
-    return good;
-}
-
-/* Writes to what is no regular file, as a device or a named pipe: renaming would
- * put a file in its place. */
-static int write_through(const char *path, const uint8_t *bytes, size_t length) {
-    int file = open(path, O_WRONLY);
-    return file >= 0 && close_after(file, write_all(file, bytes, length));
-}
-
-static int write_named(const char *name, const uint8_t *bytes, size_t length) {
-    struct stat old;
-    if (stat(name, &old) != 0) {
-        return replace(name, NULL, bytes, length);
-    }
-    if (!S_ISREG(old.st_mode)) {
-        return write_through(name, bytes, length);
-    }
-    /* Renaming asks nothing of the old file, but a write-protected one is meant
-     * to stay, and a link is meant to go on leading to its file. */
-    char *path = access(name, W_OK) == 0 ? realpath(name, NULL) : NULL;
-    int good = path != NULL && replace(path, &old, bytes, length);
-    free(path);
-    return good;
-}
-
-int write_output(const char *name, const void *bytes, size_t length) {
-    int good = is_standard(name)
-                   ? close_after(STDOUT_FILENO, write_all(STDOUT_FILENO, bytes, length))
-                   : write_named(name, bytes, length);
-    if (!good) {
-        fprintf(stderr, "noferkash: %s: %s\n", is_standard(name) ? "standard output" : name,
-                strerror(errno));
-    }
     return good;
 }

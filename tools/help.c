@@ -1,0 +1,98 @@
+/* What the command line tool says of itself. */
+#include "tool.h"
+
+static const char *const names[COMMANDS] = {"check", "to-text", "to-midi", "tidy"};
+
+enum command command_named(const char *name) {
+    int command = 0;
+    while (command < COMMANDS && strcmp(name, names[command]) != 0) {
+        command++;
+    }
+    return (enum command)command;
+}
+
+static const char all[] =
+    "usage: noferkash check   [-v]      [FILE...]\n"
+    "       noferkash to-text [-f]      [IN [OUT]]  |  -d FOLDER FILE...\n"
+    "       noferkash to-midi [-f] [-x] [IN [OUT]]  |  -d FOLDER FILE...\n"
+    "       noferkash tidy    [-f]      [IN [OUT]]  |  -d FOLDER FILE...\n"
+    "       noferkash help [COMMAND] | --version\n"
+    "\n"
+    "  check    says whether each FILE is a good Standard MIDI File\n"
+    "  to-text  writes a Standard MIDI File as MIDICSV text\n"
+    "  to-midi  writes a MIDICSV text as a Standard MIDI File\n"
+    "  tidy     writes a Standard MIDI File again in the fewest bytes\n"
+    "\n"
+    "IN and OUT are standard input and output where left out or \"-\". A file that is\n"
+    "there is replaced only with -f. Exit status: 0 good; 1 refused, with a line for each\n"
+    "refused file on standard error; 2 wrong usage, or reading or writing failed.\n";
+
+#define REPLACING                                                                              \
+    "  -f         replaces a file that is there. Without it nothing is replaced, unless it is\n" \
+    "             empty"
+
+static const char check[] =
+    "usage: noferkash check [-v] [FILE...]\n"
+    "\n"
+    "Says whether each FILE is a good Standard MIDI File; without FILE it reads standard\n"
+    "input. A file that is refused gets one line on standard error, with the number of the\n"
+    "refusal, its place and what it means. The exit status is 0 if all are good, 1 if any\n"
+    "is refused, 2 if any cannot be read.\n"
+    "\n"
+    "  -v         says of each good file how many tracks and bytes it has\n";
+
+#define FOLDER_OPTION                                                                          \
+    "  -d FOLDER  converts each FILE to a file of the same name in FOLDER, which is made if it\n" \
+    "             is not there. An OUT that is a folder does the same\n"
+
+static const char to_text[] =
+    "usage: noferkash to-text [-f] [IN [OUT]]\n"
+    "       noferkash to-text [-f] -d FOLDER FILE...\n"
+    "\n"
+    "Writes the Standard MIDI File IN as MIDICSV text, OUT or FOLDER/NAME.csv.\n"
+    "\n" FOLDER_OPTION REPLACING ". A MIDI file is never replaced by a text\n";
+
+static const char to_midi[] =
+    "usage: noferkash to-midi [-f] [-x] [IN [OUT]]\n"
+    "       noferkash to-midi [-f] [-x] -d FOLDER FILE...\n"
+    "\n"
+    "Writes the MIDICSV text IN as a Standard MIDI File, OUT or FOLDER/NAME.mid.\n"
+    "\n" FOLDER_OPTION REPLACING "\n"
+    "  -x         full: writes every status byte; without it those that repeat are left out\n";
+
+static const char tidy[] =
+    "usage: noferkash tidy [-f] [IN [OUT]]\n"
+    "       noferkash tidy [-f] -d FOLDER FILE...\n"
+    "\n"
+    "Writes the Standard MIDI File IN again in the fewest bytes, to OUT or FOLDER/NAME.mid.\n"
+    "The music stays the same. OUT may be IN.\n"
+    "\n" FOLDER_OPTION REPLACING " or IN itself\n";
+
+const char *help_for(enum command command) {
+    static const char *const texts[COMMANDS + 1] = {check, to_text, to_midi, tidy, all};
+    return texts[command];
+}
+
+static const char midicsv[] =
+    "usage: midicsv [-u] [-v] [-f] [IN [OUT]]\n"
+    "\n"
+    "Writes the Standard MIDI File IN as MIDICSV text, as noferkash to-text does.\n"
+    "\n"
+    "  -u  prints this\n"
+    "  -v  says how many tracks and bytes the file has, on standard error\n"
+    "  -f  replaces an OUT that is there, but never a MIDI file\n";
+
+static const char csvmidi[] =
+    "usage: csvmidi [-u] [-v] [-x] [-z] [-f] [IN [OUT]]\n"
+    "\n"
+    "Writes the MIDICSV text IN as a Standard MIDI File, as noferkash to-midi does.\n"
+    "\n"
+    "  -u  prints this\n"
+    "  -v  says how many tracks and bytes the file has, on standard error\n"
+    "  -x  writes every status byte; without it those that repeat are left out\n"
+    "  -z  changes nothing: the first error always refuses the whole text\n"
+    "  -f  replaces an OUT that is there\n";
+
+const char *midicsv_help_for(enum command command) {
+    return command == TO_TEXT ? midicsv : csvmidi;
+}

@@ -1,0 +1,189 @@
+/* One call of the library for each file, one line for each that is refused. What is
+ * good and what is not only the library knows. */
+#define _XOPEN_SOURCE 700
+
+#include <stdio.h>
+#include <stdlib.h>
+#include <sys/stat.h>
+#include <unistd.h>
+
+#include "explain.h"
+#include "noferkash.h"
+#include "tool.h"
+
+/* "refused 28 at line 33554433: " and the words take less. */
+#define LINE_ROOM (EXPLAIN_ROOM + 64)
+/* "good: 65535 tracks, 1048576 bytes" takes less. */
+#define GOOD_ROOM 64
+/* Where the header of a good file counts its tracks. */
+#define TRACK_COUNT_AT 10
+
+/* Buffers that are always large enough, as the header promises: so the library need
+ * not be asked first, which would cost the time of the work. */
+static size_t enough_room(enum command command, size_t input_length) {
+    switch (command) {
+    case TO_TEXT:
+        return 25 * input_length;
+    case TO_MIDI:
+    case TIDY:
+        return NOFERKASH_FILE_LIMIT;
+    default:
+        return 0;
+    }
+}
+
+static uint64_t call(const struct request *request, struct bytes in, struct bytes out) {
+    switch (request->command) {
+    case TO_TEXT:
+        return noferkash_file_to_text(in.at, in.length, out.at, out.length);
+    case TO_MIDI:
+        return noferkash_text_to_file(in.at, in.length, request->manner, out.at, out.length);
+    case TIDY:
+        return noferkash_tidy(in.at, in.length, out.at, out.length);
+    default:
+        return noferkash_check(in.at, in.length);
+    }
+}
+
+/* Bytes count from 0, lines from 1. The other numbers are about the whole, and
+ * their place, 0, would only mislead. */
+static void say_refusal(const struct request *request, const char *name, struct bytes in,
+                        uint64_t answer) {
+    int number = NOFERKASH_NUMBER(answer);
+    char place[32] = "";
+    if (number >= NOFERKASH_FILE_CUT_SHORT && number <= NOFERKASH_BYTES_AFTER_LAST_TRACK) {
+        snprintf(place, sizeof place, " at byte %zu", NOFERKASH_PLACE(answer));
+    } else if (number >= NOFERKASH_BAD_FIELD && number <= NOFERKASH_TEXT_CUT_SHORT) {
+        snprintf(place, sizeof place, " at line %zu", NOFERKASH_PLACE(answer));
+    }
+    char words[EXPLAIN_ROOM];
+    explain_refusal(request->command == TO_MIDI ? AS_TEXT : AS_FILE, in.at, in.length, answer,
+                    words, sizeof words);
+    char line[LINE_ROOM];
+    snprintf(line, sizeof line, "refused %d%s: %s", number, place, words);
+    say_of_file(input_name(name), line);
+}
+
+/* Of a file that the library has taken or made. */
+static void good_words(struct bytes file, char *words) {
+    unsigned tracks = 256U * file.at[TRACK_COUNT_AT] + file.at[TRACK_COUNT_AT + 1];
+    snprintf(words, GOOD_ROOM, "good: %u track%s, %zu bytes", tracks, tracks == 1 ? "" : "s",
+             file.length);
+}
+
+/* midicsv and csvmidi are verbose on standard error, since OUT may be standard output. */
+static int say_good(const struct request *request, const char *name, struct bytes in,
+                    struct bytes made) {
+    char words[GOOD_ROOM];
+    good_words(request->command == TO_MIDI ? made : in, words);
+    if (request->command == CHECK) {
+        return print_of_file(request->count > 1 ? input_name(name) : NULL, words);
+    }
+    say_of_file(input_name(name), words);
+    return 1;
+}
+
+static enum outcome put_made(const struct request *request, const char *name, struct bytes made,
+                             const struct identity *own, struct files *files) {
+    if (request->folder == NULL) {
+        return put_output(request, request->out, made, own, files);
+    }
+    char *path = name_in_folder(request->folder, name, request->command);
+    if (path == NULL) {
+        say_failed(input_name(name));
+        return FAILED;
+    }
+    enum outcome outcome = put_output(request, path, made, own, files);
+    free(path);
+    return outcome;
+}
+
+static enum outcome convert(const struct request *request, const char *name, struct bytes in,
+                            struct bytes out, const struct identity *own, struct files *files) {
+    uint64_t answer = call(request, in, out);
+    if (NOFERKASH_NUMBER(answer) != NOFERKASH_OK) {
+        say_refusal(request, name, in, answer);
+        return REFUSED;
+    }
+    struct bytes made = {out.at, NOFERKASH_LENGTH(answer)};
+    enum outcome outcome =
+        request->command == CHECK ? GOOD : put_made(request, name, made, own, files);
+    if (outcome == GOOD && request->verbose && !say_good(request, name, in, made)) {
+        return FAILED;
+    }
+    return outcome;
+}
+
+static enum outcome run_one(const struct request *request, const char *name, struct files *files) {
+    struct bytes in;
+    struct identity own;
+    enum outcome outcome = FAILED;
+    size_t limit = request->command == TO_MIDI ? NOFERKASH_TEXT_LIMIT : NOFERKASH_FILE_LIMIT;
+    if (read_input(name, limit, &in, &own)) {
+        struct bytes out = {NULL, enough_room(request->command, in.length)};
+        /* malloc(0) may give NULL, which would pass for a failure. */
+        out.at = malloc(out.length + 1);
+        if (out.at == NULL) {
+            say_failed(input_name(name));
+        } else {
+            outcome = convert(request, name, in, out, &own, files);
+        }
+        free(out.at);
+    }
+    free(in.at);
+    return outcome;
+}
+
+/* One that cannot be found now cannot be read later either, and is told then. */
+static void note_inputs(const struct request *request, struct files *files) {
+    for (size_t i = 0; i < request->count; i++) {
+        struct stat status;
+        const char *name = request->names[i];
+        int found = is_standard(name) ? fstat(STDIN_FILENO, &status) : stat(name, &status);
+        if (found == 0) {
+            struct identity identity = {status.st_dev, status.st_ino};
+            files->at[files->count++] = identity;
+        }
+    }
+}
+
+static void say_totals(const size_t totals[FAILED + 1], size_t count) {
+    wipe_count();
+    fprintf(stderr, "%zu files: %zu good, %zu refused", count, totals[GOOD], totals[REFUSED]);
+    if (totals[FAILED] > 0) {
+        fprintf(stderr, ", %zu failed", totals[FAILED]);
+    }
+    fprintf(stderr, "\n");
+}
+
+/* The greatest outcome that came. */
+static enum outcome run_all(const struct request *request, struct files *files) {
+    size_t totals[FAILED + 1] = {0, 0, 0};
+    enum outcome worst = GOOD;
+    for (size_t i = 0; i < request->count; i++) {
+        show_count(i + 1, request->count);
+        enum outcome outcome = run_one(request, request->names[i], files);
+        totals[outcome]++;
+        worst = outcome > worst ? outcome : worst;
+    }
+    if (request->count > 1) {
+        say_totals(totals, request->count);
+    }
+    return worst;
+}
+
+enum outcome run(const struct request *request) {
+    if (request->folder != NULL && !make_folder(request->folder)) {
+        return FAILED;
+    }
+    /* Each file is read, and may be written. */
+    struct files files = {calloc(2 * request->count, sizeof *files.at), 0};
+    if (files.at == NULL) {
+        say_failed("memory");
+        return FAILED;
+    }
+    note_inputs(request, &files);
+    enum outcome outcome = run_all(request, &files);
+    free(files.at);
+    return outcome;
+}
