@@ -86,7 +86,7 @@ static enum taken take_options(char **words, int count, int *operands, struct re
 static size_t standard_inputs(const struct request *request) {
     size_t found = 0;
     for (size_t i = 0; i < request->count; i++) {
-        found += is_standard(request->names[i]);
+        found += is_standard(request->names[i]) ? 1 : 0;
     }
     return found;
 }
