@@ -166,11 +166,19 @@ static int create(const char *name, struct bytes made, struct files *files) {
     return good;
 }
 
+/* On a terminal the bytes of a MIDI file help nobody: who forgot OUT is told so. */
+static int put_standard(const struct request *request, struct bytes made) {
+    if (request->command != TO_TEXT && isatty(STDOUT_FILENO)) {
+        return say_kept("standard output", "is a terminal; nothing was written (name OUT)");
+    }
+    return write_standard_output(made.at, made.length) || say_failed("standard output");
+}
+
 static int put(const struct request *request, const char *name, struct bytes made,
                const struct identity *own, struct files *files) {
     struct stat old;
     if (is_standard(name)) {
-        return write_standard_output(made.at, made.length) || say_failed("standard output");
+        return put_standard(request, made);
     }
     if (stat(name, &old) != 0) {
         return errno == ENOENT ? create(name, made, files) : say_failed(name);

@@ -85,10 +85,10 @@ struct Task {
 
 const TASKS: [Task; 5] = [
     // In so much room any file's text fits, and ours measures nothing first.
-    Task { name: "file to text, room 25n", room: |inputs| 25 * inputs.file.len(), ..TO_TEXT },
-    Task { name: "file to text, exact room", ..TO_TEXT },
+    Task { name: "file to text, buffer 25n", room: |inputs| 25 * inputs.file.len(), ..TO_TEXT },
+    Task { name: "file to text, exact buffer", ..TO_TEXT },
     Task {
-        name: "text to file, manner 1",
+        name: "text to file, short",
         input: |inputs| &inputs.text,
         ours: |text, room| archive::text_to_file(text, 1, room),
         second: |text, room| operations::text_to_file(text, 1, room).packed(),
