@@ -45,6 +45,7 @@ SHARED = $(BUILD)/libnoferkash.so.$(VERSION)
 MAN = $(wildcard man/*.1 man/*.3 man/*.5)
 DOC = LICENSE CHANGELOG.md $(wildcard docs/*.md)
 
+.DELETE_ON_ERROR:
 .PHONY: all tool example install uninstall prove dist test bench fuzz fuzz-planted soak clean always
 
 all: tool example
@@ -103,9 +104,9 @@ install uninstall: export INTO_INCLUDE = $(DESTDIR)$(INCLUDEDIR)
 install uninstall: export INTO_LIB = $(DESTDIR)$(LIBDIR)
 install uninstall: export INTO_MAN = $(DESTDIR)$(MANDIR)
 install uninstall: export INTO_DOC = $(DESTDIR)$(DOCDIR)
-install: export PC_PREFIX = $(PREFIX)
-install: export PC_INCLUDE = $(INCLUDEDIR)
-install: export PC_LIB = $(LIBDIR)
+install uninstall: export PC_PREFIX = $(PREFIX)
+install uninstall: export PC_INCLUDE = $(INCLUDEDIR)
+install uninstall: export PC_LIB = $(LIBDIR)
 
 install: $(TOOL) $(LIBRARY) $(SHARED)
 	install -d "$$INTO_BIN" "$$INTO_INCLUDE" "$$INTO_LIB/pkgconfig" "$$INTO_DOC"
@@ -136,7 +137,7 @@ uninstall:
 	@$(LOADER)
 
 # The loader finds a library in the folders that it knows, as /usr/local/lib, only after ldconfig has looked.
-LOADER = if [ -z "$(DESTDIR)" ] && ldconfig -NXv 2>/dev/null | grep -qF "$$INTO_LIB:"; then ldconfig; fi
+LOADER = PATH="$$PATH:/usr/sbin:/sbin"; if [ "$$INTO_LIB" = "$$PC_LIB" ] && ldconfig -NXv 2>/dev/null | grep -qF "$$PC_LIB:"; then ldconfig; fi
 
 # Only here: another goal takes the library that was proved as it is, and needs no rt.
 ifneq ($(filter prove dist,$(MAKECMDGOALS)),)
@@ -148,6 +149,7 @@ $(PROVED): crates.txt $(SOURCES) target/toolchain
 	.ci/prove staticlib noferkash
 
 target/toolchain: always
+	@command -v rt >/dev/null || { echo "Proving needs the Rattle toolchain (rt); make alone does not." >&2; exit 2; }
 	@mkdir -p target
 	@version=$$(rt version) && { [ "$$(cat $@ 2>/dev/null)" = "$$version" ] || echo "$$version" >$@; }
 endif
