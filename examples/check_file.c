@@ -5,7 +5,7 @@
 #include "noferkash.h"
 
 /* One byte over the limit shows that a file is too long. */
-#define ROOM (NOFERKASH_FILE_LIMIT + 1)
+#define MOST (NOFERKASH_FILE_LIMIT + 1)
 
 int main(int argc, char **argv) {
     if (argc != 2) {
@@ -13,12 +13,12 @@ int main(int argc, char **argv) {
         return 2;
     }
     FILE *stream = fopen(argv[1], "rb");
-    uint8_t *file = malloc(ROOM);
+    uint8_t *file = malloc(MOST);
     if (stream == NULL || file == NULL) {
         perror(argv[1]);
         return 2;
     }
-    size_t length = fread(file, 1, ROOM, stream);
+    size_t length = fread(file, 1, MOST, stream);
     if (ferror(stream)) {
         perror(argv[1]);
         return 2;

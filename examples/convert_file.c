@@ -6,7 +6,7 @@
 #include "noferkash.h"
 
 /* One byte over the limit shows that a file is too long. */
-#define ROOM (NOFERKASH_FILE_LIMIT + 1)
+#define MOST (NOFERKASH_FILE_LIMIT + 1)
 
 static int failed(const char *name) {
     perror(name);
@@ -19,19 +19,18 @@ int main(int argc, char **argv) {
         return 2;
     }
     FILE *in = fopen(argv[1], "rb");
-    uint8_t *file = malloc(ROOM);
+    uint8_t *file = malloc(MOST);
     if (in == NULL || file == NULL) {
         return failed(argv[1]);
     }
-    size_t length = fread(file, 1, ROOM, in);
+    size_t length = fread(file, 1, MOST, in);
     if (ferror(in)) {
         return failed(argv[1]);
     }
     fclose(in);
 
-    /* With no room a good file is refused with 14, which gives the room needed. */
-    uint8_t none[1];
-    uint64_t answer = noferkash_file_to_text(file, length, none, 0);
+    /* With no buffer a good file is refused with 14, and the answer has the length needed. */
+    uint64_t answer = noferkash_file_to_text(file, length, NULL, 0);
     int number = NOFERKASH_NUMBER(answer);
     if (number != NOFERKASH_ROOM_TOO_SMALL) {
         fprintf(stderr, "%s: refused %d: %s\n", argv[1], number, noferkash_refusal_words(number));

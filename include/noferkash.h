@@ -1,18 +1,24 @@
 /* Noferkash: Standard MIDI Files to MIDICSV text and back, proved.
  *
- * Link with libnoferkash.a (x86-64). Every answer is one number of 64 bits,
- * number * 2^56 + place * 2^28 + length, which the macros below take apart.
+ * For Linux on x86-64. Link with -lnoferkash, the shared or the static library;
+ * pkg-config knows it as noferkash. noferkash(3) is the manual page.
+ *
+ * Every answer is one number of 64 bits, number * 2^56 + place * 2^28 + length,
+ * which the macros below take apart. The piece of a file or text is what it says:
+ * the format, the division, and the events of each track with their Times.
  *
  * The caller owes:
- * - a pointer is valid for as many bytes as the length beside it says, and is
- *   not NULL, also where that length is 0;
- * - no two slices of one call overlap, and nobody else writes the bytes of a
- *   slice during the call.
+ * - a pointer is valid for as many bytes as the length beside it says; where that
+ *   length is 0 it may be NULL;
+ * - the two buffers of one call do not overlap, and during the call nobody else
+ *   writes to the input, or reads or writes the output.
  *
  * Promised in return, for all bytes and all lengths:
- * - the call ends, and its answer depends on nothing but the bytes given;
- * - input is read only, nothing outside the slices is read or written, and
- *   nothing is kept after the call or allocated in it;
+ * - the call ends, and its answer and what it writes depend on nothing but the
+ *   input's bytes, `out_len` and the manner;
+ * - input is read only, nothing outside the buffers is read or written, and
+ *   nothing is kept after the call or allocated in it: any functions may be called
+ *   from any number of threads at once, on the same input too;
  * - a refusal writes nothing.
  */
 #ifndef NOFERKASH_H
@@ -21,7 +27,11 @@
 #include <stddef.h>
 #include <stdint.h>
 
-#define NOFERKASH_VERSION "0.1.0"
+/* Of this header. noferkash_version() has that of the library. */
+#define NOFERKASH_VERSION "0.2.0"
+#define NOFERKASH_VERSION_MAJOR 0
+#define NOFERKASH_VERSION_MINOR 2
+#define NOFERKASH_VERSION_PATCH 0
 
 /* The greatest files, read or written, and the greatest texts read, in bytes. */
 #define NOFERKASH_FILE_LIMIT 1048576
@@ -46,54 +56,55 @@ enum noferkash_number {
     /* Of files; places are bytes. */
     NOFERKASH_FILE_TOO_LONG = 1,           /* over 1,048,576 bytes; 0 */
     NOFERKASH_FILE_CUT_SHORT = 2,          /* header, track start or track past the end; 0 or chunk */
-    NOFERKASH_BAD_HEADER = 3,              /* tag, length, format, count, division; 0, 4, 8, 10, 12 */
+    NOFERKASH_BAD_HEADER = 3,              /* tag, length, format, tracks, division; 0, 4, 8, 10, 12 */
     NOFERKASH_BAD_TRACK_TAG = 4,           /* not MTrk; chunk */
     NOFERKASH_VARIABLE_TOO_LONG = 5,       /* variable-length number over four bytes; event */
     NOFERKASH_EVENT_CUT_SHORT = 6,         /* needs a byte past the track's end; event */
     NOFERKASH_TIME_TOO_GREAT = 7,          /* over 4,294,967,295; event */
-    NOFERKASH_BAD_STATUS = 8,              /* no status in force, F1..F6, F8..FE, meta over 127; event */
+    NOFERKASH_BAD_STATUS = 8,              /* no running status, F1..F6, F8..FE, meta over 127; event */
     NOFERKASH_BAD_CHANNEL_DATA = 9,        /* over 127; event */
     NOFERKASH_BAD_META_LENGTH = 10,        /* of a meta event of fixed length; event */
     NOFERKASH_BAD_META_VALUE = 11,         /* out of range; event */
     NOFERKASH_BYTES_AFTER_END_TRACK = 12,  /* in the same track; first such byte */
     NOFERKASH_BYTES_AFTER_LAST_TRACK = 13, /* first such byte */
 
-    /* Of lent room; place 0, and the length needed. */
+    /* Of the buffer `out`; place 0, and the length needed. */
     NOFERKASH_ROOM_TOO_SMALL = 14,
 
     /* Of texts; places are lines, 0 where the whole is at fault. */
     NOFERKASH_TEXT_TOO_LONG = 21,        /* over 33,554,432 bytes; 0 */
-    NOFERKASH_BAD_FIELD = 22,            /* no number, name or quoted text */
-    NOFERKASH_UNKNOWN_RECORD = 23,       /* third field not a listed name */
+    NOFERKASH_BAD_FIELD = 22,            /* no number, name or text in "straight quotes" */
+    NOFERKASH_UNKNOWN_RECORD = 23,       /* third field is no record name */
     NOFERKASH_WRONG_FIELD_COUNT = 24,    /* too many or too few */
-    NOFERKASH_FIELD_OUT_OF_RANGE = 25,   /* or of wrong shape */
-    NOFERKASH_RECORD_OUT_OF_ORDER = 26,  /* not permitted there, or Time falling */
-    NOFERKASH_STEP_TOO_GREAT = 27,       /* in Time, over 268,435,455 */
-    NOFERKASH_TEXT_CUT_SHORT = 28,       /* ends before End_of_file; line count + 1 */
+    NOFERKASH_FIELD_OUT_OF_RANGE = 25,   /* or of wrong kind */
+    NOFERKASH_RECORD_OUT_OF_ORDER = 26,  /* not permitted there, or Time goes backwards */
+    NOFERKASH_STEP_TOO_GREAT = 27,       /* gap in Time over 268,435,455 */
+    NOFERKASH_TEXT_CUT_SHORT = 28,       /* ends before End_of_file; number of lines + 1 */
     NOFERKASH_WRITTEN_TOO_LONG = 29,     /* file would pass 1,048,576 bytes; 0 */
-    NOFERKASH_BAD_MANNER = 30            /* neither 0 nor 1; 0 */
+    NOFERKASH_BAD_MANNER = 30            /* neither 0 (full) nor 1 (short); 0 */
 };
 
 /* Is this a good file? NOFERKASH_OK, or the earliest fault and its place.
  * Length is always 0. */
 uint64_t noferkash_check(const uint8_t *file, size_t file_len);
 
-/* Writes the text of the file's piece into `out`: MIDICSV records, each ended by
- * LF, no NUL after them. NOFERKASH_OK and the length written; bytes of `out`
- * past it stay. A file of n bytes has at most 25 * n bytes of text, and in a
- * room of that size nothing is measured first.
+/* Writes the text of the file's piece into the buffer `out`: MIDICSV records, each
+ * ended by LF, no NUL after them. NOFERKASH_OK and the length written; bytes of `out`
+ * past it stay. A file of n bytes has at most 25 * n bytes of text, and with a
+ * buffer of that size nothing is measured first.
  *
  * Refusals, in this order; each leaves all of `out` as it was:
  * - numbers 1 to 13, as noferkash_check answers them;
  * - NOFERKASH_ROOM_TOO_SMALL when out_len is under the length needed, which the
- *   answer gives. So out_len 0 asks for it. */
+ *   answer gives. So NULL and out_len 0 ask for it. */
 uint64_t noferkash_file_to_text(const uint8_t *file, size_t file_len, uint8_t *out, size_t out_len);
 
-/* Writes the file of the text's piece into `out`. Manner 0 writes every status
- * byte, manner 1 leaves one out wherever permitted; every variable-length number
- * takes the fewest bytes. NOFERKASH_OK and the length written; bytes of `out`
- * past it stay. The text of an accepted file comes back as the file of the same
- * piece, and a file made here is accepted and has the text's piece.
+/* Writes the file of the text's piece into the buffer `out`. Manner 0 (full)
+ * writes every status byte, manner 1 (short) leaves one out wherever permitted;
+ * every variable-length number takes the fewest bytes. NOFERKASH_OK and the length
+ * written; bytes of `out` past it stay. The text of an accepted file comes back as
+ * a file of the same piece, and a file made here is accepted and has the text's
+ * piece.
  *
  * Refusals, in this order; each leaves all of `out` as it was:
  * - NOFERKASH_BAD_MANNER for every manner but 0 and 1;
@@ -101,25 +112,30 @@ uint64_t noferkash_file_to_text(const uint8_t *file, size_t file_len, uint8_t *o
  * - numbers 22 to 28, the first in the order of the lines, with its line;
  * - NOFERKASH_WRITTEN_TOO_LONG when the file would pass 1,048,576 bytes;
  * - NOFERKASH_ROOM_TOO_SMALL when out_len is under the length needed, which the
- *   answer gives. So out_len 0 asks for it. */
+ *   answer gives. So NULL and out_len 0 ask for it. */
 uint64_t noferkash_text_to_file(const uint8_t *text, size_t text_len, uint32_t manner, uint8_t *out, size_t out_len);
 
-/* Writes the file's piece again into `out` in manner 1: a status byte left out
- * wherever permitted, every variable-length number in the fewest bytes.
- * NOFERKASH_OK and the length written; bytes of `out` past it stay. A tidied
- * file tidies to itself.
+/* Writes the file's piece again into the buffer `out` in manner 1 (short): a
+ * status byte left out wherever permitted, every variable-length number in the
+ * fewest bytes. NOFERKASH_OK and the length written; bytes of `out` past it stay.
+ * A tidied file tidies to itself.
  *
  * Refusals, in this order; each leaves all of `out` as it was:
  * - numbers 1 to 13, as noferkash_check answers them;
  * - NOFERKASH_WRITTEN_TOO_LONG, should the tidied file pass 1,048,576 bytes;
  * - NOFERKASH_ROOM_TOO_SMALL when out_len is under the length needed, which the
- *   answer gives. So out_len 0 asks for it. */
+ *   answer gives. So NULL and out_len 0 ask for it. */
 uint64_t noferkash_tidy(const uint8_t *file, size_t file_len, uint8_t *out, size_t out_len);
 
+/* The two functions below are plain C, tested and not proved. What they give is
+ * never NULL and never to be freed. */
+
 /* The meaning of a number in a few words, as "bytes after End_track in the
- * track"; for every other number "unknown refusal number". Never NULL, never to
- * be freed. This one function is plain C, tested and not proved. */
+ * track"; for every other number "unknown refusal number". */
 const char *noferkash_refusal_words(int number);
+
+/* The version of the library, as "0.2.0". */
+const char *noferkash_version(void);
 
 #ifdef __cplusplus
 }

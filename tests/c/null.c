@@ -1,0 +1,97 @@
+/* NULL with length 0 in place of each buffer of each function: the answers are those of a pointer
+ * that is not NULL, and every refusal is met so. Linux has nothing at NULL: to touch it is to die. */
+#include "noferkash.h"
+
+#include <stdio.h>
+#include <string.h>
+
+#include "cases.h"
+
+static unsigned count, failed;
+static int met[256];
+
+static void due(const char *what, uint64_t answer, uint64_t due) {
+    count++;
+    met[NOFERKASH_NUMBER(answer)]++;
+    if (answer != due) {
+        failed++;
+        printf("FAILED: %s: %d at %zu, length %zu; due: %d at %zu, length %zu\n", what,
+               NOFERKASH_NUMBER(answer), NOFERKASH_PLACE(answer), NOFERKASH_LENGTH(answer),
+               NOFERKASH_NUMBER(due), NOFERKASH_PLACE(due), NOFERKASH_LENGTH(due));
+    }
+}
+
+static uint64_t answer_of(uint64_t number, uint64_t place, uint64_t length) {
+    return (number << 56) + (place << 28) + length;
+}
+
+static uint8_t one[1];
+
+static void no_output(const char *what, const void *bytes, size_t length) {
+    due(what, noferkash_file_to_text(bytes, length, NULL, 0),
+        noferkash_file_to_text(bytes, length, one, 0));
+    due(what, noferkash_tidy(bytes, length, NULL, 0), noferkash_tidy(bytes, length, one, 0));
+    for (uint32_t manner = 0; manner <= 2; manner++) {
+        due(what, noferkash_text_to_file(bytes, length, manner, NULL, 0),
+            noferkash_text_to_file(bytes, length, manner, one, 0));
+    }
+}
+
+/* Nothing is read, and nothing may be written: no file and no text is empty. */
+static void no_input(uint8_t *out, size_t out_len) {
+    uint64_t no_file = answer_of(NOFERKASH_FILE_CUT_SHORT, 0, 0);
+    uint64_t no_text = answer_of(NOFERKASH_TEXT_CUT_SHORT, 1, 0);
+    due("no file", noferkash_check(NULL, 0), no_file);
+    due("no file", noferkash_file_to_text(NULL, 0, out, out_len), no_file);
+    due("no file", noferkash_tidy(NULL, 0, out, out_len), no_file);
+    due("no text", noferkash_text_to_file(NULL, 0, 0, out, out_len), no_text);
+    due("no text", noferkash_text_to_file(NULL, 0, 1, out, out_len), no_text);
+    due("no text", noferkash_text_to_file(NULL, 0, 2, out, out_len),
+        answer_of(NOFERKASH_BAD_MANNER, 0, 0));
+}
+
+#define EACH(array, i) (size_t i = 0; i < sizeof array / sizeof array[0]; i++)
+
+int main(void) {
+    static uint8_t much[READ_LIMIT + 1];
+    uint8_t out[64], before[64];
+    memset(out, 0xA5, sizeof out);
+    memcpy(before, out, sizeof out);
+    no_input(NULL, 0);
+    no_input(out, 0);
+    no_input(out, sizeof out);
+    if (memcmp(out, before, sizeof out) != 0) {
+        failed++;
+        printf("FAILED: a refusal wrote something\n");
+    }
+
+    for EACH(cases, i) {
+        no_output(cases[i].what, cases[i].bytes, cases[i].length);
+    }
+    for EACH(tidy_cases, i) {
+        no_output(tidy_cases[i].what, tidy_cases[i].bytes, tidy_cases[i].length);
+    }
+    for EACH(text_cases, i) {
+        no_output(text_cases[i].what, text_cases[i].bytes, text_cases[i].length);
+    }
+    for EACH(file_cases, i) {
+        no_output(file_cases[i].what, file_cases[i].bytes, file_cases[i].length);
+    }
+    no_output("too long", much, sizeof much);
+    /* A text whose file would be too long. */
+    int written = sprintf((char *)much, HEADER_LINE START_LINE "1, 0, System_exclusive, %d", LIMIT);
+    for (int i = 0; i < LIMIT; i++, written += 3) {
+        memcpy(much + written, ", 0", 3);
+    }
+    strcpy((char *)much + written, "\n" END_LINES);
+    no_output("file too long", much, strlen((char *)much));
+
+    for (int number = 1; number <= 30; number++) {
+        if ((number <= 14 || number >= 21) && met[number] == 0) {
+            failed++;
+            printf("FAILED: %d was never met\n", number);
+        }
+    }
+    printf("%u calls, %u failed\n", count, failed);
+    return failed != 0;
+}
