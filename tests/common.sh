@@ -81,19 +81,16 @@ same() {
 # try STATUS LINE COMMAND..: the exit status, and all of standard error, which is that one line or
 # nothing. Standard output is kept in ../out, standard error in ../err.
 try() {
-    local status=$1 line=$2 got
+    local status=$1 line=$2 got said
     shift 2
     cases=$((cases + 1))
     "$@" >"$made/out" 2>"$made/err"
     got=$?
     [ "$got" = "$status" ] || failed "exit $got, not $status: $*"
-    if [ -n "$line" ]; then
-        printf '%s\n' "$line" >"$made/line"
-    else
-        : >"$made/line"
+    # All of it: reading ends at a byte 0, or fails at the end.
+    if IFS= read -r -d '' said <"$made/err" || [ "$said" != "${line:+$line$'\n'}" ]; then
+        failed "standard error '$(tr -d '\0' <"$made/err")', not '$line': $*"
     fi
-    cmp -s "$made/err" "$made/line" ||
-        failed "standard error '$(cat "$made/err")', not '$line': $*"
 }
 
 # silent STATUS LINE COMMAND..: as try, and nothing on standard output.
@@ -114,6 +111,12 @@ starts() {
     [ "${#said[@]}" = 1 ] || failed "standard error '${said[*]}' is not one line: $*"
     [[ ${said[0]:-} == "$start"*$'\n' ]] || failed "standard error '${said[*]}', not '$start..': $*"
     [ ! -s "$made/out" ] || failed "standard output is not empty: $*"
+}
+
+# unchanged BEFORE AFTER WHAT: two files of what state said are the same.
+unchanged() {
+    cases=$((cases + 1))
+    cmp -s "$1" "$2" || failed "$3: $(diff "$1" "$2" | head -n 20)"
 }
 
 # lines STATUS COMMAND..: the exit status, and standard error is what ../lines has.
