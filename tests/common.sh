@@ -1,5 +1,4 @@
-# Shared by the scripts tool, overwrite, many, names, usage, installed and pages, each called with
-# [ARCHIVE]: the proved library,
+# Shared by the scripts tool, installed and pages, each called with [ARCHIVE]: the proved library,
 # default ../target/staticlib/libnoferkash.a. Exit 1: a case failed. Exit 2: something is missing.
 script=tests/$(basename "$0")
 here=$(dirname "$(realpath "$0")")
