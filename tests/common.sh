@@ -81,25 +81,85 @@ same() {
 # try STATUS LINE COMMAND..: the exit status, and all of standard error, which is that one line or
 # nothing. Standard output is kept in ../out, standard error in ../err.
 try() {
-    local status=$1 line=$2 got
+    local status=$1 line=$2 got said
     shift 2
     cases=$((cases + 1))
     "$@" >"$made/out" 2>"$made/err"
     got=$?
     [ "$got" = "$status" ] || failed "exit $got, not $status: $*"
-    if [ -n "$line" ]; then
-        printf '%s\n' "$line" >"$made/line"
-    else
-        : >"$made/line"
+    # All of it: reading ends at a byte 0, or fails at the end.
+    if IFS= read -r -d '' said <"$made/err" || [ "$said" != "${line:+$line$'\n'}" ]; then
+        failed "standard error '$(tr -d '\0' <"$made/err")', not '$line': $*"
     fi
-    cmp -s "$made/err" "$made/line" ||
-        failed "standard error '$(cat "$made/err")', not '$line': $*"
 }
 
 # silent STATUS LINE COMMAND..: as try, and nothing on standard output.
 silent() {
     try "$@"
     holds "standard output is not empty: ${*:3}" test ! -s "$made/out"
+}
+
+# starts STATUS START COMMAND..: as silent, but standard error is one line that begins so.
+starts() {
+    local status=$1 start=$2 got said
+    shift 2
+    cases=$((cases + 1))
+    "$@" >"$made/out" 2>"$made/err"
+    got=$?
+    [ "$got" = "$status" ] || failed "exit $got, not $status: $*"
+    mapfile said <"$made/err"
+    [ "${#said[@]}" = 1 ] || failed "standard error '${said[*]}' is not one line: $*"
+    [[ ${said[0]:-} == "$start"*$'\n' ]] || failed "standard error '${said[*]}', not '$start..': $*"
+    [ ! -s "$made/out" ] || failed "standard output is not empty: $*"
+}
+
+# unchanged BEFORE AFTER WHAT: two files of what state said are the same.
+unchanged() {
+    cases=$((cases + 1))
+    cmp -s "$1" "$2" || failed "$3: $(diff "$1" "$2" | head -n 20)"
+}
+
+# lines STATUS COMMAND..: the exit status, and standard error is what ../lines has.
+lines() {
+    local status=$1 got
+    shift
+    cases=$((cases + 1))
+    "$@" >"$made/out" 2>"$made/err"
+    got=$?
+    [ "$got" = "$status" ] || failed "exit $got, not $status: $*"
+    cmp -s "$made/err" "$made/lines" ||
+        failed "standard error '$(head -c 2000 "$made/err")', not '$(head -c 2000 "$made/lines")': $*"
+}
+
+# An old file that a failing run must leave: its bytes, and the file itself.
+make_old() {
+    rm -f "$1"
+    echo old >"$1"
+    stat -c '%i %Y %a' "$1" >"$made/old-state"
+}
+
+old_stays() {
+    echo old >"$made/old"
+    same "$1" "$made/old"
+    stat -c '%i %Y %a' "$1" >"$made/new-state"
+    same "$made/old-state" "$made/new-state"
+    no_leftovers
+}
+
+no_leftovers() {
+    holds "left over: $(find "$made/work" -name '.noferkash-*')" \
+        test -z "$(find "$made/work" -name '.noferkash-*')"
+}
+
+# state FOLDER [BUT]: what is in the folder, but for the name BUT: of each name the kind, the inode,
+# permissions and owner; of files and links also size, time, bytes and aim.
+state() {
+    (
+        cd "$1" || exit 2
+        find . -path "./${2:-:}" -o -type d -printf '%p %y %i %m\n' -o -type p -printf '%p %y %i %m\n' \
+            -o -printf '%p %y %i %m %U:%G %s %T@ %l\n'
+        find . -path "./${2:-:}" -o -type f -exec cksum {} + 2>/dev/null
+    ) | sort
 }
 
 as_other() {

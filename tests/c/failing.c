@@ -1,8 +1,10 @@
 /* Preloaded before the C library, makes the call that FAILING names fail as it seldom does:
  * close, fsync, fchmod, rename; or "short": each write is of 7 bytes at most, and every other one
- * is interrupted. */
+ * is interrupted; or "plain": the file system cannot rename with conditions; or "late": while the
+ * new file is flushed, somebody else's comes to stand at the name LATE. */
 #define _GNU_SOURCE
 #include <errno.h>
+#include <fcntl.h>
 #include <stdio.h>
 #include <stdlib.h>
 #include <string.h>
@@ -25,7 +27,18 @@ int close(int file) {
     return fails("close") ? fail(EDQUOT) : done;
 }
 
+static void come_late(void) {
+    int other = open(getenv("LATE"), O_WRONLY | O_CREAT | O_EXCL, 0644);
+    if (other >= 0) {
+        syscall(SYS_write, other, "old\n", 4);
+        syscall(SYS_close, other);
+    }
+}
+
 int fsync(int file) {
+    if (fails("late")) {
+        come_late();
+    }
     return fails("fsync") ? fail(EIO) : (int)syscall(SYS_fsync, file);
 }
 
@@ -35,6 +48,13 @@ int fchmod(int file, mode_t mode) {
 
 int rename(const char *from, const char *to) {
     return fails("rename") ? fail(EBUSY) : (int)syscall(SYS_rename, from, to);
+}
+
+int renameat2(int from_folder, const char *from, int to_folder, const char *to, unsigned flags) {
+    if (fails("rename") || (flags != 0 && fails("plain"))) {
+        return fail(fails("rename") ? EBUSY : EINVAL);
+    }
+    return (int)syscall(SYS_renameat2, from_folder, from, to_folder, to, flags);
 }
 
 ssize_t write(int file, const void *bytes, size_t length) {
