@@ -1,18 +1,24 @@
-//! The tables of records in man/noferkash-text.5.
+//! The tables of records in man/noferkash-text.5 and docs/FORMAT.md.
 
 use second::refusal::Answer;
 
-use super::{answer_to_text, refused, text_with, Tally};
+use super::{answer_to_text, bytes, cells, file_of_text, quoted, refused, text_with, Tally};
 
 /// Header, Start_track, End_track, End_of_file and 25 events.
 const RECORDS: usize = 29;
 const STRUCTURE: [&str; 4] = ["Header", "Start_track", "End_track", "End_of_file"];
 /// A type that has no record of its own; the table has no range for it.
 const OTHER_TYPE: i64 = 96;
+/// A cell that holds nothing.
+const NONE: &str = "–";
+/// The one record of STRUCTURE that has bytes in a file.
+const END: &str = "End_track";
+/// The place of the first event in a file.
+const EVENTS: usize = 22;
 
 /// A field as a table has it.
 #[derive(Clone, Debug)]
-enum Field {
+pub enum Field {
     Number {
         least: i64,
         most: i64,
@@ -34,6 +40,24 @@ impl Field {
         }
     }
 
+    /// The number in the file of its first or second good value, if it has one.
+    pub fn number(&self, end: usize) -> Option<i64> {
+        match self {
+            Field::Number { least, most } => Some([*least, *most][end]),
+            Field::Mode => Some(end as i64),
+            Field::Text | Field::Data => None,
+        }
+    }
+
+    /// The bytes of the same, of a Text or of Data.
+    pub fn bulk(&self, end: usize) -> Option<Vec<u8>> {
+        match self {
+            Field::Text => Some([&b""[..], b"a\xA0"][end].to_owned()),
+            Field::Data => Some([&b""[..], b"\0\xFF"][end].to_owned()),
+            Field::Number { .. } | Field::Mode => None,
+        }
+    }
+
     /// Values just outside its range or of another shape.
     fn bad(&self) -> Vec<String> {
         match self {
@@ -47,37 +71,102 @@ impl Field {
     }
 }
 
-pub fn ranges(page: &str, tally: &mut Tally) {
+/// The rows of the manual page: name and fields.
+pub fn of_manual(page: &str, tally: &mut Tally) {
     let rows = page.lines().filter_map(|line| line.strip_prefix(".It ")?.split_once(" Ta "));
-    let rows: Vec<(&str, &str)> = rows.collect();
-    if rows.len() != RECORDS {
-        tally.fault(&format!("noferkash-text(5) has {} records, not {RECORDS}", rows.len()));
+    let rows: Vec<(&str, String)> = rows.map(|(name, columns)| (name, plain(columns))).collect();
+    ranges("noferkash-text(5)", &rows, tally);
+}
+
+/// The rows of docs/FORMAT.md: name, bytes and fields.
+pub fn of_format(page: &str, tally: &mut Tally) {
+    let rows: Vec<(&str, &str, &str)> = page.lines().filter_map(row).collect();
+    for (name, pattern, columns) in &rows {
+        match (quoted(pattern), fields(columns)) {
+            (Some(pattern), Some(fields)) => laid_out(name, pattern, &fields, tally),
+            _ if *pattern == NONE && STRUCTURE.contains(name) => {}
+            _ => tally.fault(&format!("FORMAT.md: {name}: {pattern}: {columns}")),
+        }
+    }
+    let rows: Vec<(&str, String)> =
+        rows.iter().map(|(name, _, columns)| (*name, columns.to_string())).collect();
+    ranges("FORMAT.md", &rows, tally);
+}
+
+fn row(line: &str) -> Option<(&str, &str, &str)> {
+    let cells = cells(line, 3)?;
+    let name = quoted(cells[0])?;
+    name.chars().all(|sign| sign.is_ascii_alphabetic() || sign == '_').then_some(())?;
+    Some((name, cells[1], cells[2]))
+}
+
+/// A manual page's way of writing, undone.
+fn plain(columns: &str) -> String {
+    columns
+        .replace(r"\-", "-")
+        .replace(r"\(dq", "\"")
+        .replace(r"\(en", NONE)
+        .replace(r"\&", "")
+        .replace("Ar ", "")
+        .replace("No ", "")
+}
+
+fn ranges(page: &str, rows: &[(&str, String)], tally: &mut Tally) {
+    let mut names: Vec<&str> = rows.iter().map(|(name, _)| *name).collect();
+    names.sort_unstable();
+    names.dedup();
+    if rows.len() != RECORDS || names.len() != RECORDS {
+        tally.fault(&format!("{page} has {} records, not {RECORDS}", rows.len()));
     }
     for (name, columns) in rows {
         match fields(columns) {
-            None => tally.fault(&format!("noferkash-text(5): {name}: {columns}")),
-            Some(fields) if STRUCTURE.contains(&name) => structure(name, &fields, tally),
+            None => tally.fault(&format!("{page}: {name}: {columns}")),
+            Some(fields) if STRUCTURE.contains(name) => structure(name, &fields, tally),
             Some(fields) => event(name, &fields, tally),
         }
     }
 }
 
+/// An event alone in a file, in the full manner, has the bytes of its pattern, at both ends
+/// of its fields' ranges.
+fn laid_out(name: &str, pattern: &str, fields: &[Field], tally: &mut Tally) {
+    for end in [0, 1] {
+        let values = fields.iter().map(|field| field.good().swap_remove(end));
+        let line: Vec<String> =
+            ["1, 0".to_owned(), name.to_owned()].into_iter().chain(values).collect();
+        let line = line.join(", ");
+        let Some(mut due) = bytes::of(pattern, fields, end) else {
+            return tally.fault(&format!("FORMAT.md: {name}: {pattern} is not understood"));
+        };
+        let mut text = text_with("");
+        if name != END {
+            text = text_with(&line);
+            due.extend(b"\0\xFF\x2F\0");
+        }
+        let (_, file) = file_of_text(text.as_bytes(), 0);
+        tally.equal(
+            &format!("{line} as {pattern}"),
+            file.get(EVENTS + 1..).unwrap_or_default(),
+            &due,
+        );
+    }
+}
+
 /// The fields of a row; those before a range without one of their own have the next.
 fn fields(columns: &str) -> Option<Vec<Field>> {
-    let columns = columns.replace(r"\-", "-").replace(r"\(dq", "\"");
-    if columns == r"\(en" {
+    if columns == NONE {
         return Some(Vec::new());
     }
     let mut fields = Vec::new();
     let mut waiting = 0;
-    for column in columns.split(',').map(|column| column.replace("Ar ", "").replace("No ", "")) {
+    for column in columns.split(',') {
         match column.trim() {
             "channel" => fields.push(Field::Number { least: 0, most: 15 }),
             "type" => fields.push(Field::Number { least: OTHER_TYPE, most: OTHER_TYPE }),
             "Text" => fields.push(Field::Text),
             "\"major\" or \"minor\"" => fields.push(Field::Mode),
             "Length" => fields.push(Field::Data),
-            "Data" | r"\&.." => {}
+            "Data" | ".." => {}
             column => match column.rsplit(' ').next()?.split_once("..") {
                 None => waiting += 1,
                 Some((least, most)) => {

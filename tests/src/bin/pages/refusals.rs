@@ -3,12 +3,12 @@
 use second::archive;
 use second::refusal::Answer;
 
-use super::{answer_to_text, refused, text_with, Tally};
+use super::{answer_to_text, cells, refused, text_with, Tally};
 
 /// Numbers with at least one example: 1..14 and 21..30.
 const NUMBERS: usize = 24;
-/// Document 01's file of 39 bytes stands below the table of 14, in lines indented so.
-const INDENT: &str = "    ";
+/// Examples that are no cell of a table stand in lines indented so.
+pub const INDENT: &str = "    ";
 
 pub fn examples(page: &str, tally: &mut Tally) {
     let rows: Vec<Vec<&str>> = page.lines().filter_map(row).collect();
@@ -21,7 +21,7 @@ pub fn examples(page: &str, tally: &mut Tally) {
             let what = format!("REFUSALS.md, {number}, '{example}'");
             match number {
                 1..=13 => file_example(&what, number, example, tally),
-                14 => room_example(&what, page, example, tally),
+                14 => buffer_example(&what, page, example, tally),
                 _ => text_example(&what, number, example, tally),
             }
         }
@@ -30,8 +30,7 @@ pub fn examples(page: &str, tally: &mut Tally) {
 
 /// The cells of a row that begins with a number.
 fn row(line: &str) -> Option<Vec<&str>> {
-    let cells: Vec<&str> = line.strip_prefix("| ")?.strip_suffix(" |")?.split(" | ").collect();
-    cells[0].parse::<u8>().ok().filter(|_| cells.len() == 6).map(|_| cells)
+    cells(line, 6).filter(|cells| cells[0].parse::<u8>().is_ok())
 }
 
 /// `file: place`, refused by each operation that takes a file.
@@ -51,7 +50,7 @@ fn file_example(what: &str, number: u8, example: &str, tally: &mut Tally) {
     }
 }
 
-fn file_of(example: &str) -> Option<Vec<u8>> {
+pub fn file_of(example: &str) -> Option<Vec<u8>> {
     if let Some(file) = size_of(example) {
         return Some(file);
     }
@@ -64,7 +63,7 @@ fn file_of(example: &str) -> Option<Vec<u8>> {
 }
 
 /// `no bytes` or `any 1,048,577 bytes`.
-fn size_of(example: &str) -> Option<Vec<u8>> {
+pub fn size_of(example: &str) -> Option<Vec<u8>> {
     if example == "no bytes" {
         return Some(Vec::new());
     }
@@ -72,8 +71,8 @@ fn size_of(example: &str) -> Option<Vec<u8>> {
     Some(vec![0; count.parse().ok()?])
 }
 
-/// Hexadecimal bytes, with the page's short names for parts of files.
-fn bytes_of(words: &str) -> Option<Vec<u8>> {
+/// Hexadecimal bytes, with the pages' short names for parts of files.
+pub fn bytes_of(words: &str) -> Option<Vec<u8>> {
     let mut bytes = Vec::new();
     for word in words.split(' ') {
         match word {
@@ -86,24 +85,24 @@ fn bytes_of(words: &str) -> Option<Vec<u8>> {
     Some(bytes)
 }
 
-/// The one example of 14: tidying the file below the table into too little room.
-fn room_example(what: &str, page: &str, example: &str, tally: &mut Tally) {
-    let hexadecimal: Vec<&str> = page
-        .lines()
-        .filter_map(|line| line.strip_prefix(INDENT))
-        .filter(|line| bytes_of(line).is_some())
-        .collect();
+/// The file that a page has in indented lines.
+pub fn file_in(page: &str) -> Option<Vec<u8>> {
+    let lines = page.lines().filter_map(|line| line.strip_prefix(INDENT));
+    let lines: Vec<&str> = lines.filter(|line| bytes_of(line).is_some()).collect();
+    bytes_of(&lines.join(" "))
+}
+
+/// The one example of 14: tidying the file below the table into a buffer that is too small.
+fn buffer_example(what: &str, page: &str, example: &str, tally: &mut Tally) {
     let numbers: Vec<usize> =
         example.split(|sign: char| !sign.is_ascii_digit()).filter_map(|n| n.parse().ok()).collect();
-    let (Some(mut file), [1, size, room, needed]) =
-        (bytes_of(&hexadecimal.join(" ")), &numbers[..])
-    else {
+    let (Some(mut file), [size, buffer, needed]) = (file_in(page), &numbers[..]) else {
         return tally.fault(&format!("{what} is not understood"));
     };
     if file.len() != *size {
         tally.fault(&format!("{what}: the file has {} bytes", file.len()));
     }
-    let packed = archive::tidy(&mut file, &mut vec![0; *room]);
+    let packed = archive::tidy(&mut file, &mut vec![0; *buffer]);
     tally.expect(what, Answer::unpacked(packed), Answer { length: *needed, ..refused(14, 0) });
 }
 
