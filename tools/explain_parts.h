@@ -1,0 +1,49 @@
+/* What the parts behind explain.h share. */
+#ifndef NOFERKASH_EXPLAIN_PARTS_H
+#define NOFERKASH_EXPLAIN_PARTS_H
+
+#include <stddef.h>
+#include <stdint.h>
+
+#include "explain.h"
+
+/* A part of the input, or all of it. */
+struct part {
+    const uint8_t *at;
+    size_t length;
+};
+
+/* Words being written; `used` of the `room` bytes are. */
+struct words {
+    char *at;
+    size_t room;
+    size_t used;
+};
+
+/* Adds to the words, as printf does, as far as there is room. The answer is
+ * always 1, so that what has said something can end with `return say(..)`. */
+__attribute__((format(printf, 2, 3))) int say(struct words *words, const char *format, ...);
+
+/* How much is shown of a field, and the room for that. */
+enum { MOST_SHOWN = 40, SHOWN_ROOM = MOST_SHOWN + 1 };
+
+/* A number with a comma before each three digits: what counts bytes or pulses is
+ * read so, what stands in a text is shown as it stands. */
+enum { GROUPED_ROOM = 27 };
+const char *grouped(uint64_t number, char shown[GROUPED_ROOM]);
+
+/* Each of these adds words, or adds nothing and answers 0 if it has found none. */
+
+/* What was really given, without the semicolon after it. */
+int say_given(enum read_as read_as, struct part input, struct words *words);
+
+/* About 2 to 12. */
+int explain_file(struct part file, int number, size_t place, struct words *words);
+
+/* About 22 to 25: one line alone. */
+int explain_line(struct part text, int number, size_t place, struct words *words);
+
+/* About 26 to 28: a line after all those before it. */
+int explain_order(struct part text, int number, size_t place, struct words *words);
+
+#endif
