@@ -116,7 +116,7 @@ static int take_operands(char **operands, size_t count, struct request *request)
     if (count < 2) {
         return take_names(operands, count, request);
     }
-    if (is_folder(operands[count - 1])) {
+    if (!is_standard(operands[count - 1]) && is_folder(operands[count - 1])) {
         request->folder = operands[count - 1];
         return take_names(operands, count - 1, request);
     }

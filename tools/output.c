@@ -129,6 +129,13 @@ static int write_and_note(const char *path, const struct stat *old, struct bytes
     return good;
 }
 
+/* A file that has all that would be written is this run's as if it had been. */
+static int leave_and_note(const struct stat *old, struct files *files) {
+    struct identity left = {old->st_dev, old->st_ino};
+    files->at[files->count++] = left;
+    return 1;
+}
+
 /* Renaming asks nothing of the old file, but a write-protected one is meant to stay,
  * and a link is meant to go on leading to its file. */
 static int write_over(const char *name, const struct stat *old, struct bytes made,
@@ -152,11 +159,11 @@ static int replace(const struct request *request, const char *name, const struct
     if (holding == UNREADABLE) {
         return say_failed(name);
     }
-    const char *why = objection(request, holding, is_own);
-    if (why != NULL && holding != THE_SAME) {
-        return say_kept(name, why);
+    if (holding == THE_SAME) {
+        return leave_and_note(old, files);
     }
-    return holding == THE_SAME || write_over(name, old, made, files);
+    const char *why = objection(request, holding, is_own);
+    return why == NULL ? write_over(name, old, made, files) : say_kept(name, why);
 }
 
 static int create(const char *name, struct bytes made, struct files *files) {

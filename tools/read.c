@@ -23,6 +23,7 @@ int read_input(const char *name, size_t limit, struct bytes *input, struct ident
         return failed(name, NULL);
     }
     if (is_standard(name) && isatty(STDIN_FILENO)) {
+        wipe_count();
         fprintf(stderr, "%s: reading standard input (a file's name may be given; Ctrl-D ends)\n",
                 program);
     }
