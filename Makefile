@@ -31,12 +31,15 @@ LIBDIR = $(PREFIX)/lib
 MANDIR = $(PREFIX)/share/man
 DOCDIR = $(PREFIX)/share/doc/noferkash
 
+ARCHIVE = $(DIST)/libnoferkash.a
 # make install takes the archive of the last build.
-ARCHIVE = $(or $(and $(filter install,$(MAKECMDGOALS)),$(shell cat $(BUILD)/archive 2>/dev/null)),$(DIST)/libnoferkash.a)
+ifeq ($(MAKECMDGOALS),install)
+ARCHIVE := $(or $(shell cat $(BUILD)/archive 2>/dev/null),$(ARCHIVE))
+endif
 
 CFLAGS = -O2
 COMPILE = $(CC) -std=c99 -Wall -Wextra -Wpedantic $(CPPFLAGS) $(CFLAGS) -Iinclude
-VERSION = $(shell sed -n 's/^.define NOFERKASH_VERSION "\(.*\)"/\1/p' include/noferkash.h)
+VERSION := $(shell sed -n 's/^.define NOFERKASH_VERSION "\(.*\)"/\1/p' include/noferkash.h)
 SONAME = libnoferkash.so.$(firstword $(subst ., ,$(VERSION)))
 
 TOOL = $(BUILD)/noferkash
