@@ -10,7 +10,7 @@ enum { HEADER_SIZE = 14, CHUNK_START = 8 };
 
 /* A track's chunk; `events` is where its events begin. It may pass the file's end. */
 struct chunk {
-    size_t number, start, events, end;
+    size_t number, events, end;
 };
 
 static uint32_t big_endian(const uint8_t *bytes, size_t length) {
@@ -21,9 +21,13 @@ static uint32_t big_endian(const uint8_t *bytes, size_t length) {
     return value;
 }
 
-static const char *are(size_t count) { return count == 1 ? "is" : "are"; }
+static const char *are(size_t count) {
+    return count == 1 ? "is" : "are";
+}
 
-static const char *plural(size_t count) { return count == 1 ? "" : "s"; }
+static const char *plural(size_t count) {
+    return count == 1 ? "" : "s";
+}
 
 /* The chunk at the start; 0 if not even its tag and length are there. */
 static int read_chunk(struct part file, size_t number, size_t start, struct chunk *chunk) {
@@ -31,7 +35,7 @@ static int read_chunk(struct part file, size_t number, size_t start, struct chun
     if (events > file.length) {
         return 0;
     }
-    *chunk = (struct chunk){number, start, events, events + big_endian(file.at + start + 4, 4)};
+    *chunk = (struct chunk){number, events, events + big_endian(file.at + start + 4, 4)};
     return 1;
 }
 

@@ -3,9 +3,13 @@
 
 #include <string.h>
 
-static int is_blank(uint8_t byte) { return byte == ' ' || byte == '\t'; }
+static int is_blank(uint8_t byte) {
+    return byte == ' ' || byte == '\t';
+}
 
-static int is_digit(uint8_t byte) { return byte >= '0' && byte <= '9'; }
+static int is_digit(uint8_t byte) {
+    return byte >= '0' && byte <= '9';
+}
 
 static int is_letter(uint8_t byte) {
     return (byte >= 'A' && byte <= 'Z') || (byte >= 'a' && byte <= 'z') || byte == '_';

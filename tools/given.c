@@ -57,7 +57,9 @@ static const char *workbook(struct part input) {
     return NULL;
 }
 
-static int is_printable(uint8_t byte) { return byte >= ' ' && byte <= '~'; }
+static int is_printable(uint8_t byte) {
+    return byte >= ' ' && byte <= '~';
+}
 
 /* By its byte order mark, or by its first two letters. */
 static int is_utf_16(struct part input) {

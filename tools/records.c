@@ -80,7 +80,9 @@ static size_t columns(const struct record *record) {
     return count;
 }
 
-size_t fields_due(const struct record *record) { return 3 + columns(record); }
+size_t fields_due(const struct record *record) {
+    return 3 + columns(record);
+}
 
 int has_length(const struct record *record) {
     size_t count = columns(record);

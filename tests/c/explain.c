@@ -43,9 +43,9 @@ static struct input read_all(void)
 
 static uint64_t answer_to(enum read_as read_as, struct input input)
 {
-    return read_as == AS_FILE ? noferkash_check(input.at, input.length)
-                              : noferkash_text_to_file(input.at, input.length, 1, file_room,
-                                                       sizeof file_room);
+    return read_as == AS_FILE
+               ? noferkash_check(input.at, input.length)
+               : noferkash_text_to_file(input.at, input.length, 1, file_room, sizeof file_room);
 }
 
 static void print_words(enum read_as read_as, struct input input, uint64_t answer)

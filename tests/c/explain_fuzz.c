@@ -8,34 +8,18 @@
 #include <stdlib.h>
 #include <string.h>
 
+#include "damage.h"
 #include "explain.h"
 #include "fields.h"
 #include "noferkash.h"
 
-#define ROOM (1 << 18)
 #define MOST_INPUTS 64
-
-struct input {
-    uint8_t at[ROOM];
-    size_t length;
-};
 
 static struct input inputs[MOST_INPUTS], damaged, mended;
 static size_t inputs_count;
 static enum read_as read_as;
 static char words[EXPLAIN_ROOM];
 static unsigned long refused[256], by_number[256], mended_count, failures;
-static uint64_t state;
-
-static size_t below(size_t limit)
-{
-    /* splitmix64 */
-    uint64_t z = state += 0x9E3779B97F4A7C15;
-
-    z = (z ^ z >> 30) * 0xBF58476D1CE4E5B9;
-    z = (z ^ z >> 27) * 0x94D049BB133111EB;
-    return (size_t)((z ^ z >> 31) % limit);
-}
 
 static uint64_t answer_to(const struct input *input)
 {
@@ -46,23 +30,14 @@ static uint64_t answer_to(const struct input *input)
                : noferkash_text_to_file(input->at, input->length, 1, room, sizeof room);
 }
 
-/* Takes bytes out and puts others there, as far as there is room. */
-static void splice(struct input *input, size_t at, size_t out, const void *bytes, size_t in)
-{
-    if (at > input->length || out > input->length - at || input->length - out + in > ROOM)
-        return;
-    memmove(input->at + at + in, input->at + at + out, input->length - at - out);
-    memcpy(input->at + at, bytes, in);
-    input->length = input->length - out + in;
-}
-
 static void fail(const char *what)
 {
     failures++;
     printf("FAILED: %s: %s\n", what, words);
 }
 
-/* Words for these bytes exactly, in a room of exactly the size: the sanitizer sees each byte too far. */
+/* Words for these bytes exactly, in a room of exactly the size: the sanitizer sees each byte too
+ * far. */
 static void explain(enum read_as as, const struct input *input, uint64_t answer)
 {
     uint8_t *bytes = malloc(input->length > 0 ? input->length : 1);
@@ -96,197 +71,6 @@ static const char *after_given(void)
     return semicolon != NULL ? semicolon + 2 : words;
 }
 
-/* --- damage to files --- */
-
-static uint32_t big_endian(const uint8_t *at)
-{
-    return (uint32_t)at[0] << 24 | (uint32_t)at[1] << 16 | (uint32_t)at[2] << 8 | at[3];
-}
-
-/* The chunk that holds the place, or that ends there; its length if it has one. */
-static size_t chunk_of(const struct input *file, size_t place, size_t *end)
-{
-    size_t start = 14;
-
-    while (start + 8 <= file->length) {
-        *end = start + 8 + big_endian(file->at + start + 4);
-        if (place <= *end)
-            return start;
-        start = *end;
-    }
-    return 0;
-}
-
-/* Makes the chunk so many bytes longer. */
-static void lengthen(struct input *file, size_t start, size_t more)
-{
-    uint32_t length = big_endian(file->at + start + 4) + (uint32_t)more;
-    size_t i;
-
-    for (i = 0; i < 4; i++)
-        file->at[start + 4 + i] = (uint8_t)(length >> (24 - 8 * i));
-}
-
-static void insert_events(struct input *file)
-{
-    static const char *const bytes[] = {"\xFF\xFF\xFF\x7F\xC0\x01", "\x80\x80\x80\x80", "\x01\xFF\x2F",
-                                        "\x01\xFF\x51\x03", "\x01\xF0\x7F", "\x01\x90\x3C", "\x01\xF4",
-                                        "\x01\xFF\x59\x02\x09\x01", "\x01\xFF\x58\x03", "\x01\xFF\x90"};
-    const char *chosen = bytes[below(sizeof bytes / sizeof bytes[0])];
-    size_t end = 0, at = below(file->length + 1), start = chunk_of(file, at, &end), i;
-
-    if (start == 0 || end > file->length)
-        return;
-    at = below(2) ? end : start + 8;
-    /* Seventeen of the first pass the greatest Time. */
-    for (i = below(2) ? 17 : 1; i > 0 && file->length + 8 < ROOM; i--) {
-        splice(file, at, 0, chosen, strlen(chosen));
-        lengthen(file, start, strlen(chosen));
-    }
-}
-
-static void damage_file(struct input *file)
-{
-    static const uint8_t bytes[] = {0, 1, 2, 3, 5, 0x2F, 0x7F, 0x80, 0x81, 0x90, 0xC0, 0xF0, 0xF7, 0xFE, 0xFF};
-    uint8_t byte = bytes[below(sizeof bytes)];
-    size_t at = file->length > 0 ? below(file->length) : 0, end;
-
-    switch (below(12)) {
-    case 0:
-        file->length = at;
-        break;
-    case 8:
-        splice(file, file->length, 0, &byte, 1);
-        break;
-    case 1:
-        splice(file, at, below(4), "", 0);
-        break;
-    case 2:
-        splice(file, at, 0, &byte, 1);
-        break;
-    case 3:
-        splice(file, below(14), 1, &byte, 1);
-        break;
-    case 4:
-        splice(file, at, 1, &byte, 1);
-        break;
-    case 5:
-        at = chunk_of(file, at, &end);
-        if (at != 0)
-            lengthen(file, at, below(9) - 4);
-        break;
-    case 6:
-        at = chunk_of(file, at, &end);
-        splice(file, at + below(8), 1, &byte, 1);
-        break;
-    case 7:
-        at = chunk_of(file, at, &end);
-        if (at != 0 && below(2))
-            file->length = at + below(9) < file->length ? at + below(9) : file->length;
-        break;
-    default:
-        insert_events(file);
-        break;
-    }
-}
-
-/* --- damage to texts --- */
-
-static size_t line_start(const struct input *text, size_t at)
-{
-    while (at > 0 && text->at[at - 1] != '\n')
-        at--;
-    return at;
-}
-
-static size_t line_length(const struct input *text, size_t start)
-{
-    size_t at = start;
-
-    while (at < text->length && text->at[at] != '\n')
-        at++;
-    return at - start;
-}
-
-/* Another field in place of one. */
-static void change_field(struct input *text, size_t at)
-{
-    static const char *const fields[] = {
-        "0", "1", "2", "-1", "-0", "15", "16", "100", "127", "128", "255", "256", "16383", "16384",
-        "32768", "65535", "65536", "16777216", "268435455", "268435456", "4294967295", "4294967296",
-        "00000000000", "+1", "", "x", "\"x\"", "\"\"", "\"", "\"\\377\"", "\"\\400\"", "\"a\"b",
-        "\"a\r\"", "major", "\"major\"", "\"minor\"", "\"Major\"", "Header", "Start_track",
-        "End_track", "END_OF_FILE", "Tempo", "System_exclusive", "Unknown_meta_event", "Text_t",
-        "Key_signature", "\xE2\x80\x9Cla\xE2\x80\x9D", "\xFF\x01", " \t", "0 0", "47", "1,2", "0;0"};
-    const char *field = fields[below(sizeof fields / sizeof fields[0])];
-    size_t start = at, end = at;
-
-    while (start > 0 && text->at[start - 1] != ',' && text->at[start - 1] != '\n')
-        start--;
-    while (end < text->length && text->at[end] != ',' && text->at[end] != '\n')
-        end++;
-    splice(text, start, end - start, field, strlen(field));
-}
-
-/* A Time that goes far, or backwards. */
-static void change_time(struct input *text, size_t start)
-{
-    static const char *const times[] = {"268435455", "268435456", "300000000", "4294967295", "0", "1"};
-    const char *time = times[below(sizeof times / sizeof times[0])];
-    size_t length = line_length(text, start), first = 0, second;
-
-    while (first < length && text->at[start + first] != ',')
-        first++;
-    for (second = first + 1; second < length && text->at[start + second] != ',';)
-        second++;
-    if (second < length)
-        splice(text, start + first + 1, second - first - 1, time, strlen(time));
-}
-
-static void damage_text(struct input *text)
-{
-    static const char bytes[] = ",;\"\\\t \r\n#-+09aZ_\x80\xFF\x01";
-    size_t at = text->length > 0 ? below(text->length) : 0;
-    size_t start = line_start(text, at), length = line_length(text, start);
-    uint8_t line[256];
-
-    switch (below(12)) {
-    case 0:
-        text->length = below(2) ? at : start;
-        break;
-    case 1:
-        splice(text, at, below(4), "", 0);
-        break;
-    case 2:
-        splice(text, at, below(2), bytes + below(sizeof bytes), 1);
-        break;
-    case 3:
-        splice(text, start, length + 1, "", 0);
-        break;
-    case 4:
-        if (length + 1 <= sizeof line && start + length < text->length) {
-            memcpy(line, text->at + start, length + 1);
-            at = line_start(text, below(text->length));
-            splice(text, at, 0, line, length + 1);
-        }
-        break;
-    case 5:
-        splice(text, start + length, 0, ", 1, 2, 3", 3 * (1 + below(3)));
-        break;
-    case 6:
-        change_time(text, start);
-        break;
-    case 7:
-        splice(text, 0, 0, below(2) ? "\xEF\xBB\xBF" : "# x\n\n", 3);
-        break;
-    default:
-        change_field(text, at);
-        break;
-    }
-}
-
-/* --- whether the words are true --- */
-
 /* The file with so many bytes more in the track, or at its end for a file cut short, is not refused
  * with that number at that place; with one byte less it is. */
 static void mend_file(const struct input *file, uint64_t answer, size_t missing)
@@ -306,7 +90,8 @@ static void mend_file(const struct input *file, uint64_t answer, size_t missing)
             lengthen(&mended, start, more);
         mended_count++;
         if ((answer_to(&mended) == answer) != (less == 1))
-            fail(less == 0 ? "what is missing does not mend it" : "less than what is missing mends it");
+            fail(less == 0 ? "what is missing does not mend it"
+                           : "less than what is missing mends it");
     }
 }
 
@@ -333,7 +118,7 @@ static void look_at_file(const struct input *file, uint64_t answer)
         fail("another track");
 
     /* So small files have no commas in their numbers. */
-    if (sscanf(said, "track %*u ends inside an event: %lu byte%*[s] %*[aeirs] missing", &due) == 1 &&
+    if (sscanf(said, "track %*u ends inside an event: %lu byte", &due) == 1 &&
         strstr(said, "or more") == NULL && strchr(said, ',') == NULL)
         mend_file(file, answer, due);
     needed = strstr(said, " needs ");
@@ -398,9 +183,18 @@ static void cut_at_field(const struct input *text, uint64_t answer, size_t numbe
     }
 }
 
+/* The number or name after these words, if they are said. "an event" is neither. */
+static int due_after(const char *said, const char *before, char due[32])
+{
+    const char *found = strstr(said, before);
+
+    return found != NULL && sscanf(found + strlen(before), "%31[0-9A-Za-z_-]", due) == 1 &&
+           strcmp(due, "an") != 0;
+}
+
 static void look_at_text(const struct input *text, uint64_t answer)
 {
-    const char *said = after_given(), *found;
+    const char *said = after_given();
     char due[32];
     unsigned long field;
 
@@ -408,21 +202,14 @@ static void look_at_text(const struct input *text, uint64_t answer)
         return;
     if (NOFERKASH_NUMBER(answer) == NOFERKASH_BAD_FIELD)
         cut_at_field(text, answer, field);
-    else if ((found = strstr(said, " is not ")) != NULL && sscanf(found, " is not %31[0-9-]..", due) == 1)
-        mend_field(text, answer, field, due);
-    else if ((found = strstr(said, "is no text")) != NULL)
+    else if (strstr(said, " is no text") != NULL)
         mend_field(text, answer, field, "\"\"");
-    else if ((found = strstr(said, " is not \"major\"")) != NULL)
+    else if (strstr(said, " is not \"major\"") != NULL)
         mend_field(text, answer, field, "\"major\"");
-    else if ((found = strstr(said, " is no record name")) != NULL)
+    else if (strstr(said, " is no record name") != NULL)
         mend_field(text, answer, field, "Tempo");
-    else if ((found = strstr(said, "after Time ")) != NULL && sscanf(found, "after Time %31[0-9]", due) == 1)
-        mend_field(text, answer, field, due);
-    else if ((found = strstr(said, "backwards, after ")) != NULL &&
-             sscanf(found, "backwards, after %31[0-9]", due) == 1)
-        mend_field(text, answer, field, due);
-    else if ((found = strstr(said, ", not ")) != NULL && sscanf(found, ", not %31[0-9A-Za-z_]", due) == 1 &&
-             strcmp(due, "an") != 0)
+    else if (due_after(said, " is not ", due) || due_after(said, "after Time ", due) ||
+             due_after(said, "backwards, after ", due) || due_after(said, ", not ", due))
         mend_field(text, answer, field, due);
 }
 
@@ -480,7 +267,7 @@ int main(int argc, char **argv)
     if (argc < 5)
         return 2;
     read_as = strcmp(argv[1], "file") == 0 ? AS_FILE : AS_TEXT;
-    state = strtoull(argv[2], NULL, 10);
+    seed_with(strtoull(argv[2], NULL, 10));
     for (i = 4; i < argc; i++)
         load(argv[i]);
     if (inputs_count == 0)
