@@ -95,8 +95,9 @@ $(SHARED): $(LIBRARY) $(BUILD)/exports
 	ln -sf $(notdir $@) $(BUILD)/$(SONAME)
 	ln -sf $(SONAME) $(BUILD)/libnoferkash.so
 
-$(TOOL): $(wildcard tools/*.c tools/*.h) include/noferkash.h $(LIBRARY)
-	$(COMPILE) $(LDFLAGS) -o $@ $(wildcard tools/*.c) $(LIBRARY)
+TOOL_SOURCES = $(wildcard tools/*.c tools/explain/*.c)
+$(TOOL): $(TOOL_SOURCES) $(wildcard tools/*.h tools/explain/*.h) include/noferkash.h $(LIBRARY)
+	$(COMPILE) $(LDFLAGS) -o $@ $(TOOL_SOURCES) $(LIBRARY)
 
 $(BUILD)/%_file: examples/%_file.c include/noferkash.h $(LIBRARY)
 	$(COMPILE) $(LDFLAGS) -o $@ $< $(LIBRARY)

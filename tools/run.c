@@ -7,7 +7,7 @@
 #include <sys/stat.h>
 #include <unistd.h>
 
-#include "explain.h"
+#include "explain/explain.h"
 #include "noferkash.h"
 #include "tool.h"
 

@@ -1,4 +1,4 @@
-/* Prints the words of tools/explain.h for inputs from standard input:
+/* Prints the words of tools/explain for inputs from standard input:
  *   explain file|text         the input: refused N at P: WORDS, or good
  *   explain lines N           each line of the input as line N of a good text
  *   explain show MOST         the input, shown in at most so many bytes

@@ -2,7 +2,7 @@
 #ifndef NOFERKASH_FIELDS_H
 #define NOFERKASH_FIELDS_H
 
-#include "explain_parts.h"
+#include "parts.h"
 
 enum shape { NO_SHAPE, NUMBER, NAME, QUOTED };
 

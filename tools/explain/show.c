@@ -3,7 +3,7 @@
 #include <stdio.h>
 #include <string.h>
 
-#include "explain_parts.h"
+#include "parts.h"
 
 int say(struct words *words, const char *format, ...) {
     size_t left = words->room - words->used;

@@ -3,7 +3,7 @@
  * every step is held against the end all the same. */
 #include <inttypes.h>
 
-#include "explain_parts.h"
+#include "parts.h"
 #include "noferkash.h"
 
 enum { HEADER_SIZE = 14, CHUNK_START = 8 };

@@ -2,7 +2,7 @@
  * that a spreadsheet has saved. */
 #include <string.h>
 
-#include "explain_parts.h"
+#include "parts.h"
 #include "fields.h"
 #include "records.h"
 

@@ -2,7 +2,7 @@
 #include <inttypes.h>
 #include <string.h>
 
-#include "explain_parts.h"
+#include "parts.h"
 #include "fields.h"
 #include "noferkash.h"
 #include "records.h"

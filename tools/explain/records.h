@@ -2,7 +2,7 @@
 #ifndef NOFERKASH_RECORDS_H
 #define NOFERKASH_RECORDS_H
 
-#include "explain_parts.h"
+#include "parts.h"
 #include "fields.h"
 
 enum column_kind {

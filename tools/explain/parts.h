@@ -1,6 +1,6 @@
 /* What the parts behind explain.h share. */
-#ifndef NOFERKASH_EXPLAIN_PARTS_H
-#define NOFERKASH_EXPLAIN_PARTS_H
+#ifndef NOFERKASH_PARTS_H
+#define NOFERKASH_PARTS_H
 
 #include <stddef.h>
 #include <stdint.h>

@@ -2,7 +2,7 @@
  * known from the lines before it, which the library has found good. */
 #include <inttypes.h>
 
-#include "explain_parts.h"
+#include "parts.h"
 #include "fields.h"
 #include "noferkash.h"
 #include "records.h"

@@ -2,7 +2,7 @@
  * the words by number alone. */
 #include "explain.h"
 
-#include "explain_parts.h"
+#include "parts.h"
 #include "noferkash.h"
 
 static int say_where(enum read_as read_as, struct part input, uint64_t answer,
