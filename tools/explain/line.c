@@ -117,7 +117,7 @@ static int say_column(size_t at, const struct field *field, int64_t before,
                    shown(field->written, room));
     case A_MODE:
         return !is_word(field, "\"major\"") && !is_word(field, "\"minor\"") &&
-               say(words, "field %zu: %s is not \"major\" or \"minor\"", at,
+               say(words, "field %zu: %s is not \"major\" or \"minor\" with its quotes", at,
                    shown(field->written, room));
     default:
         return say_number(at, field, before, column, words);
