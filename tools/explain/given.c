@@ -213,6 +213,12 @@ static int is_midicsv(struct part input) {
     return next_record(&text, &line) && read_head(line, &head);
 }
 
+/* Of a file of under four bytes it cannot be told if these are its tag's. */
+static int may_be_midi(struct part input) {
+    size_t length = input.length < 4 ? input.length : 4;
+    return has_at(input, 0, "MThd", length);
+}
+
 /* To a command that reads files. */
 static int say_given_file(struct part input, struct words *words) {
     if (input.length == 0) {
@@ -221,7 +227,10 @@ static int say_given_file(struct part input, struct words *words) {
     if (HAS_AT(input, 0, "RIFF") && HAS_AT(input, 8, "RMID")) {
         return say(words, "this is a RIFF file (.rmi)");
     }
-    return is_midicsv(input) && say(words, "this is a MIDICSV text, which to-midi reads");
+    if (is_midicsv(input)) {
+        return say(words, "this is a MIDICSV text, which to-midi reads");
+    }
+    return !may_be_midi(input) && say(words, "this is no MIDI file");
 }
 
 /* To a command that reads texts. */
