@@ -78,15 +78,21 @@ same() {
     holds "$1 and $2 differ" cmp "$1" "$2"
 }
 
-# try STATUS LINE COMMAND..: the exit status, and all of standard error, which is that one line or
-# nothing. Standard output is kept in ../out, standard error in ../err.
-try() {
-    local status=$1 line=$2 got said
-    shift 2
+# ends STATUS COMMAND..: the exit status. Standard output is kept in ../out, standard error in ../err.
+ends() {
+    local status=$1 got
+    shift
     cases=$((cases + 1))
     "$@" >"$made/out" 2>"$made/err"
     got=$?
     [ "$got" = "$status" ] || failed "exit $got, not $status: $*"
+}
+
+# try STATUS LINE COMMAND..: as ends, and all of standard error, which is that one line or nothing.
+try() {
+    local status=$1 line=$2 said
+    shift 2
+    ends "$status" "$@"
     # All of it: reading ends at a byte 0, or fails at the end.
     if IFS= read -r -d '' said <"$made/err" || [ "$said" != "${line:+$line$'\n'}" ]; then
         failed "standard error '$(tr -d '\0' <"$made/err")', not '$line': $*"
@@ -101,12 +107,9 @@ silent() {
 
 # starts STATUS START COMMAND..: as silent, but standard error is one line that begins so.
 starts() {
-    local status=$1 start=$2 got said
+    local status=$1 start=$2 said
     shift 2
-    cases=$((cases + 1))
-    "$@" >"$made/out" 2>"$made/err"
-    got=$?
-    [ "$got" = "$status" ] || failed "exit $got, not $status: $*"
+    ends "$status" "$@"
     mapfile said <"$made/err"
     [ "${#said[@]}" = 1 ] || failed "standard error '${said[*]}' is not one line: $*"
     [[ ${said[0]:-} == "$start"*$'\n' ]] || failed "standard error '${said[*]}', not '$start..': $*"
@@ -119,16 +122,11 @@ unchanged() {
     cmp -s "$1" "$2" || failed "$3: $(diff "$1" "$2" | head -n 20)"
 }
 
-# lines STATUS COMMAND..: the exit status, and standard error is what ../lines has.
+# lines STATUS COMMAND..: as ends, and standard error is what ../lines has.
 lines() {
-    local status=$1 got
-    shift
-    cases=$((cases + 1))
-    "$@" >"$made/out" 2>"$made/err"
-    got=$?
-    [ "$got" = "$status" ] || failed "exit $got, not $status: $*"
+    ends "$@"
     cmp -s "$made/err" "$made/lines" ||
-        failed "standard error '$(head -c 2000 "$made/err")', not '$(head -c 2000 "$made/lines")': $*"
+        failed "standard error '$(head -c 2000 "$made/err")', not '$(head -c 2000 "$made/lines")': ${*:2}"
 }
 
 # An old file that a failing run must leave: its bytes, and the file itself.
