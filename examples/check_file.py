@@ -1,5 +1,5 @@
 #!/usr/bin/env python3
-# check_file.py FILE: is this a good Standard MIDI File? Exit 0 yes, 1 no.
+# check_file.py FILE: is this a good Standard MIDI File? Exit 0 yes, 1 no, or it cannot be read.
 import ctypes, sys
 library = ctypes.CDLL("libnoferkash.so.0")
 library.noferkash_check.argtypes = [ctypes.c_char_p, ctypes.c_size_t]

@@ -7,7 +7,7 @@
  * which the macros below take apart. The piece of a file or text is what it says:
  * the format, the division, and the events of each track with their Times.
  *
- * The caller owes:
+ * The caller must ensure:
  * - a pointer is valid for as many bytes as the length beside it says; where that
  *   length is 0 it may be NULL;
  * - the two buffers of one call do not overlap, and during the call nobody else
@@ -33,7 +33,7 @@
 #define NOFERKASH_VERSION_MINOR 2
 #define NOFERKASH_VERSION_PATCH 0
 
-/* The greatest files, read or written, and the greatest texts read, in bytes. */
+/* The largest file, read or written, and the largest text read, in bytes. */
 #define NOFERKASH_FILE_LIMIT 1048576
 #define NOFERKASH_TEXT_LIMIT 33554432
 
@@ -59,7 +59,7 @@ enum noferkash_number {
     NOFERKASH_BAD_HEADER = 3,              /* tag, length, format, tracks, division; 0, 4, 8, 10, 12 */
     NOFERKASH_BAD_TRACK_TAG = 4,           /* not MTrk; chunk */
     NOFERKASH_VARIABLE_TOO_LONG = 5,       /* variable-length number over four bytes; event */
-    NOFERKASH_EVENT_CUT_SHORT = 6,         /* needs a byte past the track's end; event */
+    NOFERKASH_EVENT_CUT_SHORT = 6,         /* needs a byte past the track's end, or no End_track came; event */
     NOFERKASH_TIME_TOO_GREAT = 7,          /* over 4,294,967,295; event */
     NOFERKASH_BAD_STATUS = 8,              /* no running status, F1..F6, F8..FE, meta over 127; event */
     NOFERKASH_BAD_CHANNEL_DATA = 9,        /* over 127; event */
@@ -103,8 +103,8 @@ uint64_t noferkash_file_to_text(const uint8_t *file, size_t file_len, uint8_t *o
  * writes every status byte, manner 1 (short) leaves one out wherever permitted;
  * every variable-length number takes the fewest bytes. NOFERKASH_OK and the length
  * written; bytes of `out` past it stay. The text of an accepted file comes back as
- * a file of the same piece, and a file made here is accepted and has the text's
- * piece.
+ * a file of the same piece, unless it is too long in manner 0 (29). A file made
+ * here is accepted and has the text's piece.
  *
  * Refusals, in this order; each leaves all of `out` as it was:
  * - NOFERKASH_BAD_MANNER for every manner but 0 and 1;
@@ -127,8 +127,8 @@ uint64_t noferkash_text_to_file(const uint8_t *text, size_t text_len, uint32_t m
  *   answer gives. So NULL and out_len 0 ask for it. */
 uint64_t noferkash_tidy(const uint8_t *file, size_t file_len, uint8_t *out, size_t out_len);
 
-/* The two functions below are plain C, tested and not proved. What they give is
- * never NULL and never to be freed. */
+/* The two functions below are plain C, tested and not proved. The strings that they
+ * return are never NULL and must not be freed. */
 
 /* The meaning of a number in a few words, as "bytes after End_track in the
  * track"; for every other number "unknown refusal number". */

@@ -23,12 +23,12 @@ static const char all[] =
     "  to-midi  writes a MIDICSV text as a Standard MIDI File\n"
     "  tidy     writes a Standard MIDI File again in the fewest bytes\n"
     "\n"
-    "IN and OUT are standard input and output where left out or \"-\". A file that is\n"
-    "there is replaced only with -f. Exit status: 0 good; 1 refused, with a line for each\n"
+    "IN and OUT are standard input and output where left out or \"-\". An existing\n"
+    "file is replaced only with -f. Exit status: 0 good; 1 refused, with a line for each\n"
     "refused file on standard error; 2 wrong usage, or reading or writing failed.\n";
 
 #define REPLACING                                                                              \
-    "  -f         replaces a file that is there. Without it nothing is replaced, unless it is\n" \
+    "  -f         replaces an existing file. Without it nothing is replaced, unless it is\n" \
     "             empty"
 
 static const char check[] =
@@ -42,8 +42,8 @@ static const char check[] =
     "  -v         says of each good file how many tracks and bytes it has\n";
 
 #define FOLDER_OPTION                                                                          \
-    "  -d FOLDER  converts each FILE to a file of the same name in FOLDER, which is made if it\n" \
-    "             is not there. An OUT that is a folder does the same\n"
+    "  -d FOLDER  converts each FILE to a file of the same name in FOLDER, which is made if\n" \
+    "             needed. An OUT that is a folder does the same\n"
 
 static const char to_text[] =
     "usage: noferkash to-text [-f] [IN [OUT]]\n"
@@ -80,7 +80,7 @@ static const char midicsv[] =
     "\n"
     "  -u  prints this\n"
     "  -v  says how many tracks and bytes the file has, on standard error\n"
-    "  -f  replaces an OUT that is there, but never a MIDI file\n";
+    "  -f  replaces an existing OUT, but never a MIDI file\n";
 
 static const char csvmidi[] =
     "usage: csvmidi [-u] [-v] [-x] [-z] [-f] [IN [OUT]]\n"
@@ -91,7 +91,7 @@ static const char csvmidi[] =
     "  -v  says how many tracks and bytes the file has, on standard error\n"
     "  -x  writes every status byte; without it those that repeat are left out\n"
     "  -z  changes nothing: the first error always refuses the whole text\n"
-    "  -f  replaces an OUT that is there\n";
+    "  -f  replaces an existing OUT\n";
 
 const char *midicsv_help_for(enum command command) {
     return command == TO_TEXT ? midicsv : csvmidi;

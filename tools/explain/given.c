@@ -247,7 +247,7 @@ int say_given(enum read_as read_as, struct part input, struct words *words) {
     }
     const char *ending = workbook(input);
     if (ending != NULL) {
-        return say(words, "this is an %s workbook: save it as text (CSV)", ending);
+        return say(words, "this is an %s workbook: docs/SPREADSHEET.md says how to save it as text", ending);
     }
     return read_as == AS_FILE ? say_given_file(input, words) : say_given_text(input, words);
 }
