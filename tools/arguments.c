@@ -38,7 +38,8 @@ static int take_folder(const char *folder, struct request *request) {
     if (request->folder != NULL) {
         return wrong_usage("-d stands twice", "", "");
     }
-    if (folder == NULL) {
+    /* A -f that was meant as an option must not become a folder. */
+    if (folder == NULL || folder[0] == '-') {
         return wrong_usage("-d wants a folder", "", "");
     }
     request->folder = folder;

@@ -16,10 +16,10 @@ static int failed(const char *name, FILE *stream) {
     return 0;
 }
 
-int read_input(const char *name, size_t limit, struct bytes *input, struct identity *identity) {
-    input->length = 0;
-    input->at = malloc(limit + 1);
-    if (input->at == NULL) {
+int read_input(const char *name, size_t limit, struct input *in) {
+    in->bytes.length = 0;
+    in->bytes.at = malloc(limit + 1);
+    if (in->bytes.at == NULL) {
         return failed(name, NULL);
     }
     if (is_standard(name) && isatty(STDIN_FILENO)) {
@@ -32,9 +32,9 @@ int read_input(const char *name, size_t limit, struct bytes *input, struct ident
     if (stream == NULL || fstat(fileno(stream), &status) != 0) {
         return failed(name, stream);
     }
-    identity->device = status.st_dev;
-    identity->number = status.st_ino;
-    input->length = fread(input->at, 1, limit + 1, stream);
+    in->identity.device = status.st_dev;
+    in->identity.number = status.st_ino;
+    in->bytes.length = fread(in->bytes.at, 1, limit + 1, stream);
     if (ferror(stream)) {
         return failed(name, stream);
     }

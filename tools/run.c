@@ -2,6 +2,7 @@
  * good and what is not only the library knows. */
 #define _XOPEN_SOURCE 700
 
+#include <signal.h>
 #include <stdio.h>
 #include <stdlib.h>
 #include <sys/stat.h>
@@ -13,7 +14,7 @@
 
 /* "refused 28 at line 33554433: " and the words take less. */
 #define LINE_ROOM (EXPLAIN_ROOM + 64)
-/* "good: 65535 tracks, 1048576 bytes" takes less. */
+/* "good: 65535 tracks, 1048576 bytes" takes less, and so does what is said of failures. */
 #define GOOD_ROOM 64
 /* Where the header of a good file counts its tracks. */
 #define TRACK_COUNT_AT 10
@@ -84,53 +85,52 @@ static int say_good(const struct request *request, const char *name, struct byte
 }
 
 static enum outcome put_made(const struct request *request, const char *name, struct bytes made,
-                             const struct identity *own, struct files *files) {
+                             const struct input *in, struct files *files) {
     if (request->folder == NULL) {
-        return put_output(request, request->out, made, own, files);
+        return put_output(request, request->out, made, in, files);
     }
     char *path = name_in_folder(request->folder, name, request->command);
     if (path == NULL) {
         say_failed(input_name(name));
         return FAILED;
     }
-    enum outcome outcome = put_output(request, path, made, own, files);
+    enum outcome outcome = put_output(request, path, made, in, files);
     free(path);
     return outcome;
 }
 
-static enum outcome convert(const struct request *request, const char *name, struct bytes in,
-                            struct bytes out, const struct identity *own, struct files *files) {
-    uint64_t answer = call(request, in, out);
+static enum outcome convert(const struct request *request, const char *name,
+                            const struct input *in, struct bytes out, struct files *files) {
+    uint64_t answer = call(request, in->bytes, out);
     if (NOFERKASH_NUMBER(answer) != NOFERKASH_OK) {
-        say_refusal(request, name, in, answer);
+        say_refusal(request, name, in->bytes, answer);
         return REFUSED;
     }
     struct bytes made = {out.at, NOFERKASH_LENGTH(answer)};
     enum outcome outcome =
-        request->command == CHECK ? GOOD : put_made(request, name, made, own, files);
-    if (outcome == GOOD && request->verbose && !say_good(request, name, in, made)) {
+        request->command == CHECK ? GOOD : put_made(request, name, made, in, files);
+    if (outcome == GOOD && request->verbose && !say_good(request, name, in->bytes, made)) {
         return FAILED;
     }
     return outcome;
 }
 
 static enum outcome run_one(const struct request *request, const char *name, struct files *files) {
-    struct bytes in;
-    struct identity own;
+    struct input in;
     enum outcome outcome = FAILED;
     size_t limit = request->command == TO_MIDI ? NOFERKASH_TEXT_LIMIT : NOFERKASH_FILE_LIMIT;
-    if (read_input(name, limit, &in, &own)) {
-        struct bytes out = {NULL, enough_room(request->command, in.length)};
+    if (read_input(name, limit, &in)) {
+        struct bytes out = {NULL, enough_room(request->command, in.bytes.length)};
         /* malloc(0) may give NULL, which would pass for a failure. */
         out.at = malloc(out.length + 1);
         if (out.at == NULL) {
             say_failed(input_name(name));
         } else {
-            outcome = convert(request, name, in, out, &own, files);
+            outcome = convert(request, name, &in, out, files);
         }
         free(out.at);
     }
-    free(in.at);
+    free(in.bytes.at);
     return outcome;
 }
 
@@ -148,12 +148,13 @@ static void note_inputs(const struct request *request, struct files *files) {
 }
 
 static void say_totals(const size_t totals[FAILED + 1], size_t count) {
-    wipe_count();
-    fprintf(stderr, "%zu files: %zu good, %zu refused", count, totals[GOOD], totals[REFUSED]);
+    char failed[GOOD_ROOM] = "";
     if (totals[FAILED] > 0) {
-        fprintf(stderr, ", %zu failed", totals[FAILED]);
+        snprintf(failed, sizeof failed, ", %zu failed", totals[FAILED]);
     }
-    fprintf(stderr, "\n");
+    wipe_count();
+    fprintf(stderr, "%zu files: %zu good, %zu refused%s\n", count, totals[GOOD], totals[REFUSED],
+            failed);
 }
 
 /* The greatest outcome that came. */
@@ -172,7 +173,18 @@ static enum outcome run_all(const struct request *request, struct files *files) 
     return worst;
 }
 
+/* What cannot be written is told, and the other files go on: so these two, which would
+ * end us, become failures of write. But a reader that has seen enough of standard
+ * output may end us without a word, as is usual. */
+static void take_no_signals(const struct request *request) {
+    signal(SIGXFSZ, SIG_IGN);
+    if (request->folder != NULL) {
+        signal(SIGPIPE, SIG_IGN);
+    }
+}
+
 enum outcome run(const struct request *request) {
+    take_no_signals(request);
     if (request->folder != NULL && !make_folder(request->folder)) {
         return FAILED;
     }

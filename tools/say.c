@@ -5,6 +5,7 @@
 #include <stdlib.h>
 #include <unistd.h>
 
+#include "explain/explain.h"
 #include "tool.h"
 
 const char *program = "noferkash";
@@ -12,24 +13,16 @@ const char *program = "noferkash";
 /* Said where there is no memory to show a name in. */
 static char not_shown[] = "(a name)";
 
-/* The text with its control bytes escaped: a line feed in the name of a file must
- * not make two lines of one message, nor an escape change the terminal. */
+/* A line feed in the name of a file must not make two lines of one message, nor an
+ * escape change the terminal. */
 static char *escape(const char *text) {
-    /* A backslash and three digits for each byte at most. */
-    char *shown = malloc(4 * strlen(text) + 1);
+    /* A backslash and three digits for each byte at most, and more than nothing. */
+    size_t most = 4 * strlen(text) + 2;
+    char *shown = malloc(most + 1);
     if (shown == NULL) {
         return not_shown;
     }
-    char *end = shown;
-    for (; *text != '\0'; text++) {
-        unsigned char byte = (unsigned char)*text;
-        if (byte < ' ' || byte == 127) {
-            end += sprintf(end, "\\%03o", (unsigned)byte);
-        } else {
-            *end++ = *text;
-        }
-    }
-    *end = '\0';
+    show_bytes((const uint8_t *)text, strlen(text), most, shown);
     return shown;
 }
 

@@ -23,6 +23,12 @@ struct identity {
     ino_t number;
 };
 
+/* What was read, and the file that it came from. */
+struct input {
+    struct bytes bytes;
+    struct identity identity;
+};
+
 /* What the command line asks for. Where `folder` is NULL there is one name at
  * most but for check, and `out` is where it goes. */
 struct request {
@@ -66,7 +72,7 @@ enum outcome run(const struct request *request);
 /* read.c. Reads all of a file or of standard input, but no more than one byte
  * over the limit: that byte is enough for the library to see that the input is
  * too long. 0, with a line on standard error, if it cannot be read. */
-int read_input(const char *name, size_t limit, struct bytes *input, struct identity *identity);
+int read_input(const char *name, size_t limit, struct input *in);
 
 /* The files that a run reads, and those that it has written. */
 struct files {
@@ -81,19 +87,28 @@ int is_folder(const char *name);
 /* 0, with a line on standard error, if it is neither there nor can be made. */
 int make_folder(const char *folder);
 
-/* output.c. Writes what was made to the file `name` or to standard output, if
- * that may be; `own` is the file that was read. FAILED, with a line on standard
- * error, leaves what stood there. A file that was written joins `files`. */
+/* links.c. Where a file that is not there yet is to be made: a link that leads nowhere
+ * so far stays, and its target is made. To be freed; NULL, with errno set. */
+char *follow(const char *name);
+/* Whether a name leads to its file by a link of /proc, as /dev/stdout does: what such a
+ * link says is no path. */
+int is_open_file(const char *name);
+
+/* output.c. Writes what was made of the input to the file `name` or to standard
+ * output, if that may be. FAILED, with a line on standard error, leaves what stood
+ * there. A file that was written joins `files`. */
 enum outcome put_output(const struct request *request, const char *name, struct bytes made,
-                        const struct identity *own, struct files *files);
+                        const struct input *in, struct files *files);
 
 /* write.c. Each answers 0, with errno set, if it failed. */
 int write_standard_output(const void *bytes, size_t length);
 int write_through(const char *path, struct bytes bytes);
-/* In place of the file `old`, or where `old` is NULL and nothing is there. */
+/* In place of the file `old`, if that is still as it was, or where `old` is NULL and
+ * nothing is there. NOT_WRITTEN has set errno. */
+enum written { NOT_WRITTEN, WRITTEN, CHANGED_MEANWHILE };
 struct stat;
-int write_file(const char *path, const struct stat *old, struct bytes bytes,
-               struct identity *written);
+enum written write_file(const char *path, const struct stat *old, struct bytes bytes,
+                        struct identity *identity);
 
 /* say.c. What the program is called in its messages. */
 extern const char *program;

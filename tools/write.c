@@ -67,54 +67,85 @@ static int create_beside(const char *path, mode_t mode, char *name, size_t room)
 
 /* Gives the new file the owner and the permissions of the old one. */
 static int take_after(int file, const struct stat *old) {
-    if (fchown(file, old->st_uid, old->st_gid) != 0) {
-        /* Only root gives files away; for others the new file is their own. */
+    /* Only root gives files away; but a group of ours may be kept. */
+    if (fchown(file, old->st_uid, old->st_gid) != 0 && fchown(file, (uid_t)-1, old->st_gid) != 0) {
+        /* For others the new file is their own. */
     }
     return fchmod(file, old->st_mode & 0777) == 0;
 }
 
 /* Renames only where nothing stands: a file that came there since we looked is
- * nobody's to replace. Some file systems cannot do that, and then it is as
- * little as the look before. */
+ * nobody's to replace. Not every file system can do that, nor has links. */
 static int rename_new(const char *from, const char *to) {
     if (renameat2(AT_FDCWD, from, AT_FDCWD, to, RENAME_NOREPLACE) == 0) {
         return 1;
     }
-    return (errno == EINVAL || errno == ENOSYS) && rename(from, to) == 0;
+    if (errno != EINVAL && errno != ENOSYS) {
+        return 0;
+    }
+    if (link(from, to) == 0) {
+        unlink(from);
+        return 1;
+    }
+    struct stat status;
+    return errno != EEXIST && lstat(to, &status) != 0 && errno == ENOENT && rename(from, to) == 0;
 }
 
-static int fill(int file, const struct stat *old, struct bytes bytes, struct identity *written) {
+static int is_same_time(struct timespec one, struct timespec other) {
+    return one.tv_sec == other.tv_sec && one.tv_nsec == other.tv_nsec;
+}
+
+/* Whether the path still leads to the file that was looked at, and nobody has written
+ * to it since. */
+static int is_unchanged(const char *path, const struct stat *old) {
+    struct stat now;
+    return lstat(path, &now) == 0 && now.st_dev == old->st_dev && now.st_ino == old->st_ino &&
+           now.st_size == old->st_size && is_same_time(now.st_mtim, old->st_mtim) &&
+           is_same_time(now.st_ctim, old->st_ctim);
+}
+
+static enum written put_in_place(const char *name, const char *path, const struct stat *old) {
+    if (old == NULL) {
+        return rename_new(name, path) ? WRITTEN : NOT_WRITTEN;
+    }
+    if (!is_unchanged(path, old)) {
+        return CHANGED_MEANWHILE;
+    }
+    return rename(name, path) == 0 ? WRITTEN : NOT_WRITTEN;
+}
+
+static int fill(int file, const struct stat *old, struct bytes bytes, struct identity *identity) {
     struct stat status;
     if (fstat(file, &status) != 0) {
         return 0;
     }
-    written->device = status.st_dev;
-    written->number = status.st_ino;
+    identity->device = status.st_dev;
+    identity->number = status.st_ino;
     return (old == NULL || take_after(file, old)) && write_all(file, bytes.at, bytes.length) &&
            fsync(file) == 0;
 }
 
 /* Writes under a new name and renames that, so that whatever fails leaves the
  * old file whole, and nobody ever sees half of the new one. */
-int write_file(const char *path, const struct stat *old, struct bytes bytes,
-               struct identity *written) {
+enum written write_file(const char *path, const struct stat *old, struct bytes bytes,
+                        struct identity *identity) {
     size_t room = strlen(path) + NAME_ROOM;
     char *name = malloc(room);
     if (name == NULL) {
-        return 0;
+        return NOT_WRITTEN;
     }
     /* Until it has the old one's permissions it is nobody else's to read. */
     int file = create_beside(path, old == NULL ? 0666 : 0600, name, room);
-    int good = file >= 0;
-    if (good) {
-        good = close_after(file, fill(file, old, bytes, written)) &&
-               (old == NULL ? rename_new(name, path) : rename(name, path) == 0);
-        if (!good) {
+    enum written written = NOT_WRITTEN;
+    if (file >= 0) {
+        int good = close_after(file, fill(file, old, bytes, identity));
+        written = good ? put_in_place(name, path, old) : NOT_WRITTEN;
+        if (written != WRITTEN) {
             int reason = errno;
             unlink(name);
             errno = reason;
         }
     }
     free(name);
-    return good;
+    return written;
 }

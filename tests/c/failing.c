@@ -1,7 +1,8 @@
-/* Preloaded before the C library, makes the call that FAILING names fail as it seldom does:
- * close, fsync, fchmod, rename; or "short": each write is of 7 bytes at most, and every other one
- * is interrupted; or "plain": the file system cannot rename with conditions; or "late": while the
- * new file is flushed, somebody else's comes to stand at the name LATE. */
+/* Preloaded before the C library, makes the calls that FAILING names, joined by commas, fail as they
+ * seldom do: close, fsync, fchmod, rename; or "short": each write is of 7 bytes at most, and every
+ * other one is interrupted; or "plain": the file system cannot rename with conditions; or "linkless":
+ * nor make links. While the new file is flushed, somebody else may come: "late", and his file comes to
+ * stand at the name LATE; "changed", and he adds to that file; "moved", and he renames FROM to it. */
 #define _GNU_SOURCE
 #include <errno.h>
 #include <fcntl.h>
@@ -14,7 +15,14 @@
 
 static int fails(const char *call) {
     const char *failing = getenv("FAILING");
-    return failing != NULL && strcmp(failing, call) == 0;
+    size_t length = strlen(call);
+    for (; failing != NULL; failing = strchr(failing, ',')) {
+        failing += *failing == ',';
+        if (strncmp(failing, call, length) == 0 && strchr(",", failing[length]) != NULL) {
+            return 1;
+        }
+    }
+    return 0;
 }
 
 static int fail(int number) {
@@ -27,8 +35,8 @@ int close(int file) {
     return fails("close") ? fail(EDQUOT) : done;
 }
 
-static void come_late(void) {
-    int other = open(getenv("LATE"), O_WRONLY | O_CREAT | O_EXCL, 0644);
+static void add_to_late(int flags) {
+    int other = open(getenv("LATE"), O_WRONLY | O_APPEND | flags, 0644);
     if (other >= 0) {
         syscall(SYS_write, other, "old\n", 4);
         syscall(SYS_close, other);
@@ -36,10 +44,17 @@ static void come_late(void) {
 }
 
 int fsync(int file) {
-    if (fails("late")) {
-        come_late();
+    if (fails("late") || fails("changed")) {
+        add_to_late(fails("late") ? O_CREAT | O_EXCL : 0);
+    }
+    if (fails("moved")) {
+        syscall(SYS_rename, getenv("FROM"), getenv("LATE"));
     }
     return fails("fsync") ? fail(EIO) : (int)syscall(SYS_fsync, file);
+}
+
+int link(const char *from, const char *to) {
+    return fails("linkless") ? fail(EPERM) : (int)syscall(SYS_link, from, to);
 }
 
 int fchmod(int file, mode_t mode) {

@@ -51,7 +51,7 @@ static const char *workbook(struct part input) {
     }
     /* The stream that holds the cells, by its name in UTF-16; Book before 1997. */
     if (HAS_AT(input, 0, "\xD0\xCF\x11\xE0\xA1\xB1\x1A\xE1") &&
-        (HOLDS(input, "W\0o\0r\0k\0b\0o\0o\0k\0") || HOLDS(input, "B\0o\0o\0k\0"))) {
+        (HOLDS(input, "W\0o\0r\0k\0b\0o\0o\0k\0\0\0") || HOLDS(input, "B\0o\0o\0k\0\0\0"))) {
         return ".xls";
     }
     return NULL;

@@ -12,6 +12,16 @@ static const char *shown(struct part part, char room[SHOWN_ROOM]) {
     return room;
 }
 
+/* Whether it is all digits, but for a minus: a number of no permitted size. */
+static int is_too_great(struct part written) {
+    size_t at = written.length > 0 && written.at[0] == '-';
+    size_t digits = at;
+    while (digits < written.length && written.at[digits] >= '0' && written.at[digits] <= '9') {
+        digits++;
+    }
+    return digits > at && digits == written.length;
+}
+
 /* 22: the first field of none of the three shapes. */
 static int say_shape(struct part line, struct words *words) {
     struct fields fields = fields_of(line, ',');
@@ -26,6 +36,10 @@ static int say_shape(struct part line, struct words *words) {
     }
     if (field.written.length == 0) {
         return say(words, "field %zu is empty", number);
+    }
+    if (is_too_great(field.written)) {
+        return say(words, "field %zu: %s is over 4294967295 or has more than 10 digits", number,
+                   shown(field.written, room));
     }
     return say(words, "field %zu: %s is no number, name or text in \"straight quotes\"", number,
                shown(field.written, room));
