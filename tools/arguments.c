@@ -158,9 +158,12 @@ enum taken take_arguments(int argc, char **argv, struct request *request) {
     return take_operands(argv + 2, (size_t)operands, request) ? TAKEN : WRONG;
 }
 
-static enum taken take_joined_flags(const char *flags, struct request *request) {
+static enum taken take_joined_flags(const char *word, struct request *request) {
     int is_csvmidi = request->command == TO_MIDI;
-    for (; *flags != '\0'; flags++) {
+    if (is_help(word)) {
+        return print(midicsv_help_for(request->command));
+    }
+    for (const char *flags = word + 1; *flags != '\0'; flags++) {
         char unknown[] = {'-', *flags, '\0'};
         if (*flags == 'u') {
             return print(midicsv_help_for(request->command));
@@ -191,7 +194,7 @@ enum taken take_midicsv_arguments(int argc, char **argv, enum command command,
         } else if (strcmp(argv[i], "--") == 0) {
             ended = 1;
         } else {
-            taken = take_joined_flags(argv[i] + 1, request);
+            taken = take_joined_flags(argv[i], request);
         }
         if (taken != TAKEN) {
             return taken;
