@@ -1,4 +1,4 @@
--- Every refusal has a number that is not 0, and a place within bounds.
+-- Every refusal has one of document 01's numbers, and a place within bounds.
 use mathlib.Core.Path.{_≡_, refl}
 use Prim.Native.Nat.{ℕ, zero, suc, _+_, _-_, _*_, _≤_}
 use mathlib.Core.Bool.{Bool, true, false}
@@ -9,17 +9,17 @@ use Rattle.event.specs.Choice.{pick}
 use Rattle.event.specs.Outcome.{Outcome, ok, refused, andThen, check, placed}
 use Rattle.event.specs.Reader.{readMore, readVlq, readData, readNumber, dataByte, oneData, twoData, channelData, readExclusive, metaData, readMetaOf, readMeta, readFrame, readEvent}
 
--- what a refusal keeps to: its number is not 0, its place is at most m
+-- what a refusal keeps to: its number is one of document 01's, 1 to 30, its place is at most m
 abbrev pub Fair : {A : Type 0} → ℕ → Outcome A → Type 0
 Fair m (ok a r) = Unit {0}
-Fair m (refused n p) = (1 ≤ n) × (p ≤ m)
+Fair m (refused n p) = ((1 ≤ n) × (n ≤ 30)) × (p ≤ m)
 
 pub then-fair : {A B : Type 0} (m : ℕ) (x : Outcome A) (f : A → List ℕ → Outcome B) → Fair m x → ((a : A) (r : List ℕ) → x ≡ ok a r → Fair m (f a r)) → Fair m (andThen x f)
 unfolding andThen
 then-fair m (ok a r) f h k = k a r refl
 then-fair m (refused n p) f h k = h
 
-pub check-fair : {A : Type 0} (m : ℕ) (t : Bool) (n p : ℕ) (x : Outcome A) → (1 ≤ n) × (p ≤ m) → (t ≡ true → Fair m x) → Fair m (check t n p x)
+pub check-fair : {A : Type 0} (m : ℕ) (t : Bool) (n p : ℕ) (x : Outcome A) → ((1 ≤ n) × (n ≤ 30)) × (p ≤ m) → (t ≡ true → Fair m x) → Fair m (check t n p x)
 unfolding check
 check-fair m true n p x h k = k refl
 check-fair m false n p x h k = h

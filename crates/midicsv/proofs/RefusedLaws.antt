@@ -25,7 +25,7 @@ use Rattle.midicsv.specs.PieceOfText.{Told, skipped, told, framed, tellL
 -- ---- fields
 
 -- "a field of none of the three shapes"
-none-fair : (1 ≤ 22) × (0 ≤ 0)
+none-fair : ((1 ≤ 22) × (22 ≤ 30)) × (0 ≤ 0)
 none-fair = (omega arith, omega arith)
 
 push-fair : (c : ℕ) (m : Outcome (List ℕ)) → Fair 0 m → Fair 0 (push c m)
@@ -200,7 +200,7 @@ record-named (a ∷ b ∷ c ∷ fs) =
 of-fields-named : (m : Outcome (List Field)) → Fair 0 m → Named (ofFields m)
 unfolding ofFields
 of-fields-named (ok fs r) h = record-named fs
-of-fields-named (refused n p) h = h .0
+of-fields-named (refused n p) h = h .0 .0
 
 line-named : (l : List ℕ) → Named (readLine l)
 unfolding readLine allFields

@@ -46,7 +46,7 @@ text-writes p f old r new e k c =
       room = λ h. let t = lt-leb (length (textOf p)) (length old) h in (taken-apart r (roomNeeded (length (textOf p))) (rw t at answer) (record { place = omega arith; length = omega (arith, k) }), rw t at leaves);
     }
 
-file-writes : (w old : List ℕ) (r : ℕ) (new : List ℕ) → r ≡ packed (writeAnswer (length old) (length w)) → new ≡ writeLeaves w old → WritesFile w old r new
+pub file-writes : (w old : List ℕ) (r : ℕ) (new : List ℕ) → r ≡ packed (writeAnswer (length old) (length w)) → new ≡ writeLeaves w old → WritesFile w old r new
 unfolding writeAnswer writeLeaves pick
 file-writes w old r new answer leaves =
     record {
@@ -74,7 +74,7 @@ whole-written whole old r new w z =
     (λ t. let (a, e) = w .fits (leb-true (length whole) (length old) t) in ap₂ take (a .length) e ∙ take-append-seam whole (drop (length whole) old))
     (λ t. let (a, e) = w .room (leb-false (length whole) (length old) t) in absurd (omega (arith, z, a .number)))
 
-whole-file : (whole old : List ℕ) (r : ℕ) (new : List ℕ) → WritesFile whole old r new → numberOf r ≡ 0 → (take (lengthOf r) new ≡ whole) × (length whole ≤ fileLimit)
+pub whole-file : (whole old : List ℕ) (r : ℕ) (new : List ℕ) → WritesFile whole old r new → numberOf r ≡ 0 → (take (lengthOf r) new ≡ whole) × (length whole ≤ fileLimit)
 whole-file whole old r new w z =
     by-test (leb (length whole) fileLimit)
     (λ t. let k = leb-true (length whole) fileLimit t in (whole-written whole old r new (w .short k) z, k))
@@ -99,7 +99,7 @@ from-file-with : (f old : List ℕ) (r : ℕ) (x : Outcome Piece) → Bytes f �
     → (p : Piece) × LaidOut f p × (length f ≤ fileLimit)
 unfolding textAnswer
 from-file-with f old r (ok p q) bs e fair c z = let (laid, short) = file-sound f p q bs e in (p, laid .laid, short)
-from-file-with f old r (refused n l) bs e fair c z = absurd (not-zero r (refusal n l) c (fair .0) z)
+from-file-with f old r (refused n l) bs e fair c z = absurd (not-zero r (refusal n l) c (fair .0 .0) z)
 
 -- ---- text to file to text
 

@@ -1,2 +1,3 @@
 pub mod PackedLaws
 pub mod Demand2
+pub mod FoldCalls

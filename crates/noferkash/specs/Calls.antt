@@ -7,7 +7,8 @@ use Rattle.smf.specs.Reader.{readFile}
 use Rattle.smf.specs.Answer.{verdict}
 use Rattle.midicsv_read.specs.ToFile.{fileAnswer, fileLeaves}
 use Rattle.midicsv_write.specs.ToText.{textAnswer, textLeaves}
-use Rattle.smf_write.specs.Tidy.{tidyAnswer, tidyLeaves}
+use Rattle.smf.specs.Writing.{shortAnswer, shortLeaves}
+use Rattle.fold_piece.specs.FoldAnswer.{mostTracks, foldAnswer, foldLeaves}
 use Rattle.noferkash.specs.Packed.{packed}
 
 -- noferkash_check on the file f
@@ -24,4 +25,8 @@ FileCall s manner old r new = (r ≡ packed (fileAnswer s manner (length old))) 
 
 -- noferkash_tidy on the file f
 abbrev pub TidyCall : List ℕ → List ℕ → ℕ → List ℕ → Type 0
-TidyCall f old r new = (r ≡ packed (tidyAnswer (length old) (readFile f))) × (new ≡ tidyLeaves (readFile f) old)
+TidyCall f old r new = (r ≡ packed (shortAnswer (length old) (readFile f))) × (new ≡ shortLeaves (readFile f) old)
+
+-- noferkash_fold on the file f: it has a row of its own for each of the most tracks
+abbrev pub FoldCall : List ℕ → List ℕ → ℕ → List ℕ → Type 0
+FoldCall f old r new = (r ≡ packed (foldAnswer (length old) mostTracks f)) × (new ≡ foldLeaves mostTracks f old)

@@ -3,7 +3,7 @@ ghost use mathlib.Core.Path.{_≡_};
 ghost use Prim.Native.Nat.{_<_};
 ghost use Rattle.smf.specs.Demand3.{Demand3};
 ghost use Rattle.noferkash.specs.Packed.{packed, numberOf};
-ghost use Rattle.noferkash.specs.Calls.{CheckCall, TextCall, FileCall, TidyCall};
+ghost use Rattle.noferkash.specs.Calls.{CheckCall, TextCall, FileCall, TidyCall, FoldCall};
 
 // The answer as one number of 64 bits.
 fn pack(a: smf::Answer) -> u64
@@ -42,4 +42,14 @@ pub extern "C" fn noferkash_tidy(file: &[u8], out: &mut [u8]) -> u64
     ensures { λ r. ⌜ TidyCall (now (file .entry)) (now (out .entry)) r (now (out .exit)) ⌝ }
 {
     pack(smf_write::tidy::tidy(file, out))
+}
+
+#[no_mangle]
+pub extern "C" fn noferkash_fold(file: &[u8], out: &mut [u8]) -> u64
+    ensures { λ r. ⌜ FoldCall (now (file .entry)) (now (out .entry)) r (now (out .exit)) ⌝ }
+{
+    let mut places = [0usize; 64];
+    let mut times = [0u32; 64];
+    let mut statuses = [0u8; 64];
+    pack(fold::fold(file, out, &mut places, &mut times, &mut statuses))
 }

@@ -15,3 +15,5 @@ pub mod ListLaws
 pub mod TurnLaws
 pub mod AcceptedLaws
 pub mod WritingLaws
+pub mod WalkedLaws
+pub mod PlacedLaws

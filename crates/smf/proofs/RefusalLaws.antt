@@ -1,4 +1,4 @@
--- Every refusal of a file has a number that is not 0, and its place lies in the file.
+-- Every refusal of a file has one of document 01's numbers, and its place lies in the file.
 use mathlib.Core.Path.{_≡_, refl, sym, ap, _∙_}
 use Prim.Native.Nat.{ℕ, zero, suc, _+_, _-_, _≤_}
 use mathlib.Core.Bool.{Bool, true, false}

@@ -7,7 +7,10 @@ pub mod Step
 pub mod Answer
 pub mod Example
 pub mod PieceRead
+pub mod Walk
+pub mod PlacedFile
 pub mod Demand3
 pub mod Listing
 pub mod Slips
 pub mod Writing
+pub mod Code

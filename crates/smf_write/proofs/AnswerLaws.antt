@@ -18,25 +18,24 @@ use Rattle.smf.proofs.DemandLaws.{laid-read}
 use Rattle.smf.proofs.WritingLaws.{Fits28, write-fits}
 use Rattle.smf.proofs.MannerLaws.{short-laid}
 use Rattle.smf.proofs.RefusalLaws.{place-small}
-use Rattle.smf.specs.Writing.{writeAnswer, writeLeaves}
-use Rattle.smf_write.specs.Tidy.{tidyAnswer, tidyLeaves}
+use Rattle.smf.specs.Writing.{writeAnswer, writeLeaves, shortAnswer, shortLeaves}
 
-answer-with : (room : ℕ) (x : Outcome Piece) → verdict x .place ≤ fileLimit → Fits28 (tidyAnswer room x)
-unfolding tidyAnswer verdict
+answer-with : (room : ℕ) (x : Outcome Piece) → verdict x .place ≤ fileLimit → Fits28 (shortAnswer room x)
+unfolding shortAnswer verdict
 answer-with room (ok p r) h = write-fits room (length (fileOf short p))
 answer-with room (refused n q) h = record { place = omega (arith, h); length = omega arith }
 
-pub answer-fits : (room : ℕ) (f : List ℕ) → Bytes f → Fits28 (tidyAnswer room (readFile f))
+pub answer-fits : (room : ℕ) (f : List ℕ) → Bytes f → Fits28 (shortAnswer room (readFile f))
 answer-fits room f bs = answer-with room (readFile f) (place-small f bs)
 
 -- ---- tidying the manner 1 file of a piece gives it back
 
 pub record TidiedToItself (p : Piece) (old : List ℕ) : Type 0 where
-  pub answer : tidyAnswer (length old) (readFile (fileOf short p)) ≡ success (length (fileOf short p))
-  pub contents : tidyLeaves (readFile (fileOf short p)) old ≡ fileOf short p ++ drop (length (fileOf short p)) old
+  pub answer : shortAnswer (length old) (readFile (fileOf short p)) ≡ success (length (fileOf short p))
+  pub contents : shortLeaves (readFile (fileOf short p)) old ≡ fileOf short p ++ drop (length (fileOf short p)) old
 
 pub tidy-again : (f : List ℕ) (p : Piece) → LaidOut f p → (old : List ℕ) → length (fileOf short p) ≤ fileLimit → length (fileOf short p) ≤ length old → TidiedToItself p old
-unfolding tidyAnswer tidyLeaves writeAnswer writeLeaves pick
+unfolding shortAnswer shortLeaves writeAnswer writeLeaves pick
 tidy-again f p l old h g =
     let e = laid-read (fileOf short p) p (short-laid f p l) h in
     let x = le-leb (length (fileOf short p)) fileLimit h in

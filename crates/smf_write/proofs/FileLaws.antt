@@ -29,8 +29,8 @@ use Rattle.smf.proofs.MannerLaws.{manner-tracks}
 use Rattle.smf.proofs.ListLaws.{R, none-left, Accepted}
 use Rattle.smf.proofs.TurnLaws.{TrackTurn, tracks-laid}
 use Rattle.smf.proofs.AcceptedLaws.{headed, AcceptedFile}
-use Rattle.smf.specs.Writing.{writeAnswer, writeLeaves}
-use Rattle.smf_write.specs.Tidy.{tidyAnswer, tidyLeaves, trackIn, tracksIn}
+use Rattle.smf.specs.Writing.{writeAnswer, writeLeaves, shortAnswer, shortLeaves}
+use Rattle.smf_write.specs.Tidy.{trackIn, tracksIn}
 
 -- ---- the loop over the tracks: so many from the place at on
 
@@ -65,42 +65,38 @@ file-bytes m s a b d n bs e there =
     ∙ ap₂ (λ x y. layHeader x y (p .division) (tracksIn m (p .tracks))) (head .format) (there .count)
     ∙ ap₂ (layHeader a b) (head .division) tracks
 
+-- ---- the answers of what writes these bytes, measured to be n
+
+module _ (bytes old : List ℕ) (n : ℕ) (size : n ≡ length bytes) where
+  pub write-long : fileLimit < n → (refusal 29 0 ≡ writeAnswer (length old) (length bytes)) × (old ≡ writeLeaves bytes old)
+  unfolding writeAnswer writeLeaves pick
+  write-long h = (rw (← size, lt-leb n fileLimit h) refl, rw (← size, lt-leb n fileLimit h) refl)
+
+  pub write-room : n ≤ fileLimit → length old < n → (roomNeeded n ≡ writeAnswer (length old) (length bytes)) × (old ≡ writeLeaves bytes old)
+  unfolding writeAnswer writeLeaves pick
+  write-room h g = (rw (← size, le-leb n fileLimit h, lt-leb n (length old) g) refl, rw (← size, le-leb n fileLimit h, lt-leb n (length old) g) refl)
+
+  pub write-fine : n ≤ fileLimit → n ≤ length old → (success n ≡ writeAnswer (length old) (length bytes)) × (sets old 0 bytes ≡ writeLeaves bytes old)
+  unfolding writeAnswer writeLeaves pick
+  write-fine h g = (
+    rw (← size, le-leb n fileLimit h, le-leb n (length old) g) refl,
+    put-whole bytes old n size g ∙ rw (← size, le-leb n fileLimit h, le-leb n (length old) g) refl,
+  )
+
 -- ---- the answers of tidying
 
-pub tidy-refused : (x : Outcome Piece) (v : Answer) (old : List ℕ) → v ≡ verdict x → (v .number ≡ 0 → ⊥) → (v ≡ tidyAnswer (length old) x) × (old ≡ tidyLeaves x old)
-unfolding tidyAnswer tidyLeaves
+pub tidy-refused : (x : Outcome Piece) (v : Answer) (old : List ℕ) → v ≡ verdict x → (v .number ≡ 0 → ⊥) → (v ≡ shortAnswer (length old) x) × (old ≡ shortLeaves x old)
+unfolding shortAnswer shortLeaves
 tidy-refused x v old e h = judged-refused x v e h (λ k p q w. (rw q w, rw q refl))
 
 module _ (s : List ℕ) (there : AcceptedFile s) where
   abbrev Out : List ℕ
   Out = fileOf short (pieceRead s)
 
-  module _ (old : List ℕ) (n : ℕ) (size : n ≡ length Out) where
-    answer : (x : Answer) → writeAnswer (length old) n ≡ x → x ≡ tidyAnswer (length old) (readFile s)
-    unfolding tidyAnswer
-    answer x e = rw (there .read) (sym e ∙ ap (writeAnswer (length old)) (size ∙ ap (λ p. length (fileOf short p)) (there .same)))
-
-    leaves : (x : List ℕ) → writeLeaves Out old ≡ x → x ≡ tidyLeaves (readFile s) old
-    unfolding tidyLeaves
-    leaves x e = rw (there .read) (sym e ∙ ap (λ p. writeLeaves (fileOf short p) old) (there .same))
-
-    pub long-answer : fileLimit < n → (refusal 29 0 ≡ tidyAnswer (length old) (readFile s)) × (old ≡ tidyLeaves (readFile s) old)
-    unfolding writeAnswer writeLeaves pick
-    long-answer h = (answer _ (rw (lt-leb n fileLimit h) refl), leaves _ (rw (← size, lt-leb n fileLimit h) refl))
-
-    pub room-answer : n ≤ fileLimit → length old < n → (roomNeeded n ≡ tidyAnswer (length old) (readFile s)) × (old ≡ tidyLeaves (readFile s) old)
-    unfolding writeAnswer writeLeaves pick
-    room-answer h g = (answer _ (rw (le-leb n fileLimit h, lt-leb n (length old) g) refl), leaves _ (rw (← size, le-leb n fileLimit h, lt-leb n (length old) g) refl))
-
-    pub fine-answer : n ≤ fileLimit → n ≤ length old → success n ≡ tidyAnswer (length old) (readFile s)
-    unfolding writeAnswer pick
-    fine-answer h g = answer _ (rw (le-leb n fileLimit h, le-leb n (length old) g) refl)
-
-    pub fine-leaves : n ≤ fileLimit → n ≤ length old → sets old 0 Out ≡ tidyLeaves (readFile s) old
-    unfolding writeLeaves pick
-    fine-leaves h g =
-        put-whole Out old (length Out) refl (omega arith)
-        ∙ leaves _ (rw (le-leb (length Out) fileLimit (omega arith), le-leb (length Out) (length old) (omega arith)) refl)
+  pub tidied : (old : List ℕ) {v : Answer} {new : List ℕ} → (v ≡ writeAnswer (length old) (length Out)) × (new ≡ writeLeaves Out old)
+      → (v ≡ shortAnswer (length old) (readFile s)) × (new ≡ shortLeaves (readFile s) old)
+  unfolding shortAnswer shortLeaves
+  tidied old (e, g) = rw (there .read) (e ∙ ap (λ p. writeAnswer (length old) (length (fileOf short p))) (there .same), g ∙ ap (λ p. writeLeaves (fileOf short p) old) (there .same))
 
 -- ---- what is written in a row
 

@@ -11,7 +11,8 @@ ghost use Rattle.event_write.specs.Head.{mannerOf, headBytes, dataOf};
 ghost use Rattle.smf.specs.Reader.{readAll, readTracks, readFile};
 ghost use Rattle.smf.specs.Manner.{fileOf};
 ghost use Rattle.smf.specs.PieceRead.{pieceRead};
-ghost use Rattle.smf_write.specs.Tidy.{stepOf, eventsIn, trackIn, tracksIn, tidyAnswer, tidyLeaves};
+ghost use Rattle.smf.specs.Writing.{shortAnswer, shortLeaves};
+ghost use Rattle.smf_write.specs.Tidy.{stepOf, eventsIn, trackIn, tracksIn};
 use event::Delta;
 use event::EventKind;
 use event::EventStep;
@@ -25,7 +26,7 @@ use smf::ChunkStep;
 use smf::HeaderStep;
 
 // An event of a track's body, with its data; force is the status in force before it.
-fn put_event(
+pub fn put_event(
     out: &mut [u8],
     at: usize,
     delta: Delta,
@@ -45,7 +46,7 @@ fn put_event(
 }
 
 // The delta from an earlier Time to a Time.
-fn step(time: Time, earlier: Time) -> Delta
+pub fn step(time: Time, earlier: Time) -> Delta
     ensures { λ r. ⌜ r ≡ stepOf (time .0) (earlier .0) ⌝ }
 {
     match time.since(earlier) {
@@ -157,7 +158,7 @@ fn put_file(out: &mut [u8], file: &[u8], short: bool) -> usize
 
 // The file's piece in manner 1, into lent room; on any refusal the room keeps what it held.
 pub fn tidy(file: &[u8], out: &mut [u8]) -> Answer
-    ensures { λ r. ⌜ r ≡ tidyAnswer (length (now (out .entry))) (readFile (now (file .entry))) ⌝ ∗ ⌜ now (out .exit) ≡ tidyLeaves (readFile (now (file .entry))) (now (out .entry)) ⌝ }
+    ensures { λ r. ⌜ r ≡ shortAnswer (length (now (out .entry))) (readFile (now (file .entry))) ⌝ ∗ ⌜ now (out .exit) ≡ shortLeaves (readFile (now (file .entry))) (now (out .entry)) ⌝ }
 {
     let verdict = smf::check::check(file);
     let refused = verdict.number;

@@ -3,7 +3,7 @@ use Rattle.event.proofs.BytesLaws.{bytes-of}
 use Rattle.event_write.specs.Head.{mannerOf}
 use Rattle.event_write.proofs.WriteLaws.{after-measure, unmeasured, measured}
 use Rattle.smf.proofs.AcceptedLaws.{accepted-file, file-readable}
-use Rattle.smf_write.proofs.FileLaws.{tidy-refused, long-answer, room-answer, fine-answer, fine-leaves}
+use Rattle.smf_write.proofs.FileLaws.{tidy-refused, tidied, write-long, write-room, write-fine}
 use native.Mathlib.Omega.{arith}
 use mathlib.Core.Path.{_∙_, ap}
 use borrow.Author.Needs.{needs}
@@ -54,7 +54,7 @@ returns-2 c = let s = c .before .before .before .before .before .before .before 
     let n = c .before .before .before .before .put-file .result in
     let size = measured m in
     let kept = ap length (unmeasured old m) in
-    let long = long-answer s there old n size (c .before .if2 .taken) in
+    let long = tidied s there old (write-long _ old n size (c .before .if2 .taken)) in
     (c .refusal .ensures ∙ long .0, unmeasured old m ∙ long .1)
 
 room-needed-requires : tie.Need-room-needed-requires
@@ -75,7 +75,7 @@ returns-3 c = let s = c .before .before .before .before .before .before .before 
     let n = c .before .before .before .before .before .put-file .result in
     let size = measured m in
     let kept = ap length (unmeasured old m) in
-    let room = room-answer s there old n size (c .before .before .if2 .left) (omega (arith, kept, c .before .if3 .taken)) in
+    let room = tidied s there old (write-room _ old n size (c .before .before .if2 .left) (omega (arith, kept, c .before .if3 .taken))) in
     (c .room-needed .ensures ∙ room .0, unmeasured old m ∙ room .1)
 
 put-file-requires-2 : tie.Need-put-file-requires-2
@@ -105,7 +105,8 @@ returns-4 c = let s = c .before .before .before .before .before .before .before 
     let n = c .before .before .before .before .before .before .before .before .before .put-file .result in
     let size = measured m in
     let kept = ap length (unmeasured old m) in
-    (c .success .ensures ∙ fine-answer s there old n size (c .before .before .before .before .before .before .if2 .left) (omega (arith, kept, c .before .before .before .before .before .if3 .left)), after-measure m (c .before .before .before .put-file2 .ensures) .contents ∙ fine-leaves s there old n size (c .before .before .before .before .before .before .if2 .left) (omega (arith, kept, c .before .before .before .before .before .if3 .left)))
+    let fine = tidied s there old (write-fine _ old n size (c .before .before .before .before .before .before .if2 .left) (omega (arith, kept, c .before .before .before .before .before .if3 .left))) in
+    (c .success .ensures ∙ fine .0, after-measure m (c .before .before .before .put-file2 .ensures) .contents ∙ fine .1)
 
 pub tidy-spec : {M : Type 1} → statement M
 tidy-spec =

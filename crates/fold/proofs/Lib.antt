@@ -1,0 +1,7 @@
+mod RowLaws
+mod StandLaws
+mod MergeLaws
+mod EndLaws
+mod StartLaws
+mod ScanLaws
+mod TopLaws

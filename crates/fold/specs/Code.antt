@@ -1,0 +1,4 @@
+pub mod Search
+pub mod Row
+pub mod Stand
+pub mod Look

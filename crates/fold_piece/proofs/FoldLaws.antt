@@ -1,0 +1,95 @@
+-- The folded piece: lawful, with no step too long, and with a layout wherever the old one has a file of permitted length.
+use mathlib.Core.Path.{_≡_, refl, sym, ap, ap₂}
+use Prim.Native.Nat.{ℕ, _+_, _*_, _≤_}
+use mathlib.Core.List.{List, [], _∷_, map}
+use native.Mathlib.Omega.{arith}
+use lib.ListN.{length}
+use Rattle.event.specs.Event.{Event}
+use Rattle.event.specs.Frame.{frame, noStatus}
+use Rattle.event.specs.Manner.{Manner, short}
+use Rattle.event.specs.Number.{vlq}
+use Rattle.event.specs.Layout.{layFrame}
+use Rattle.event.specs.Outcome.{ok}
+use Rattle.smf.specs.Piece.{Piece, LawfulPiece, LawfulTracks}
+use Rattle.smf.specs.Spelling.{PieceSpelling, PermittedPiece, PermittedTracks, PermittedEvents}
+use Rattle.smf.specs.Layout.{layPiece, layTracks, ShortTracks, LaidOut}
+use Rattle.smf.specs.Listing.{endTimes}
+use Rattle.smf.specs.Manner.{spellTracks, spelling, fileOf}
+use Rattle.smf.specs.Reader.{fileLimit, readFile}
+use Rattle.smf.proofs.DemandLaws.{laid-read}
+use Rattle.smf.proofs.FileLaws.{header-size}
+use Rattle.smf.proofs.MannerLaws.{manner-permitted, manner-events}
+use Rattle.fold_piece.specs.Fold.{joined, byTime, greatest, endAt, foldedTrack, foldedPiece}
+use Rattle.fold_piece.proofs.OrderLaws.{All, all-append, all-byTime}
+use Rattle.fold_piece.proofs.TrackLaws.{fold-one, fold-lawful, fold-steps}
+use Rattle.fold_piece.proofs.WideLaws.{wideRest, wide, DataFit, Fit, total, total-append, total-byTime, lay-total, wide-permitted, tracks-steps, joined-fit, joined-total}
+
+-- ---- "A format 0 piece comes back the same", and any piece of one track has that track
+
+zero-piece : (p : Piece) (ts : List (List Event)) → p .tracks ≡ ts → p .format ≡ 0 → length ts ≡ 1 → LawfulTracks ts → foldedPiece p ≡ p
+unfolding foldedPiece LawfulTracks
+zero-piece p [] q z n l = absurd (omega arith)
+zero-piece p (t ∷ []) q z n l =
+    rw q (ap₂ (λ a b. record { format = a; division = p .division; tracks = b }) (sym z) (ap (λ x. x ∷ []) (fold-one t (l .0))))
+zero-piece p (t ∷ (u ∷ ts)) q z n l = absurd (omega arith)
+
+pub fold-zero : (p : Piece) → LawfulPiece p → p .format ≡ 0 → foldedPiece p ≡ p
+fold-zero p l z = zero-piece p (p .tracks) refl z (l .single z) (l .tracks)
+
+-- ---- lawful
+
+pub fold-piece-lawful : (p : Piece) → LawfulPiece p → LawfulPiece (foldedPiece p)
+unfolding foldedPiece LawfulTracks
+fold-piece-lawful p l =
+    record {
+      format = omega arith;
+      some = omega arith;
+      few = omega arith;
+      single = λ z. refl;
+      division = l .division;
+      tracks = (fold-lawful (p .tracks) (l .tracks), tt);
+    }
+
+-- ---- a layout
+
+module _ (ts : List (List Event)) (s : PieceSpelling) (l : LawfulTracks ts) (p : PermittedTracks ts (s .tracks)) where
+  pub fold-permitted : PermittedEvents 0 noStatus (foldedTrack ts) (map wide (foldedTrack ts))
+  unfolding foldedTrack All DataFit frame
+  fold-permitted =
+      wide-permitted 0 noStatus (foldedTrack ts) (fold-steps ts l (tracks-steps ts (s .tracks) p))
+      (all-append Fit (byTime (joined ts)) (endAt (greatest (endTimes ts)) ∷ []) (all-byTime Fit (joined ts) (joined-fit ts (s .tracks) p)) (omega arith, tt))
+
+  pub fold-total : total (foldedTrack ts) ≤ 3 * length (layTracks ts (s .tracks)) + 10
+  unfolding foldedTrack total layFrame frame wideRest vlq
+  fold-total =
+      omega (arith, total-append (byTime (joined ts)) (endAt (greatest (endTimes ts)) ∷ []), total-byTime (joined ts), joined-total ts (s .tracks) p)
+
+-- in either manner the folded piece of a file of permitted length has a layout: no step too long (27), no track too long
+pub fold-laid : (m : Manner) (f : List ℕ) (p : Piece) → LaidOut f p → length f ≤ fileLimit → LaidOut (fileOf m (foldedPiece p)) (foldedPiece p)
+unfolding fileOf spelling spellTracks foldedPiece PermittedPiece PermittedTracks ShortTracks layPiece
+fold-laid m f p laid h =
+    let law = laid .has .lawful in
+    let ts = p .tracks in
+    let s = laid .spelling in
+    let permitted = fold-permitted ts s (law .tracks) (laid .has .permitted) in
+    let wides : PieceSpelling = record { tracks = map wide (foldedTrack ts) ∷ [] } in
+    let size = header-size (p .format) (length ts) (p .division) (layTracks ts (s .tracks)) in
+    record {
+      spelling = spelling m (foldedPiece p);
+      has =
+          record {
+            lawful = fold-piece-lawful p law;
+            permitted = manner-permitted m (foldedPiece p) wides (permitted, tt);
+            short = (
+              omega
+                  (arith, manner-events m 0 noStatus (foldedTrack ts) (map wide (foldedTrack ts)) permitted, lay-total 0 (foldedTrack ts), fold-total ts s (law .tracks) (laid .has .permitted), ap length (laid .bytes), size, h),
+              tt,
+            );
+          };
+      bytes = refl;
+    }
+
+-- so the folded file, where it is not too long, is read as the folded piece
+pub fold-read : (m : Manner) (f : List ℕ) (p : Piece) → LaidOut f p → length f ≤ fileLimit → length (fileOf m (foldedPiece p)) ≤ fileLimit
+    → readFile (fileOf m (foldedPiece p)) ≡ ok (foldedPiece p) []
+fold-read m f p laid h g = laid-read (fileOf m (foldedPiece p)) (foldedPiece p) (fold-laid m f p laid h) g

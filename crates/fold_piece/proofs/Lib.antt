@@ -1,0 +1,9 @@
+pub mod OrderLaws
+pub mod GapLaws
+pub mod TrackLaws
+pub mod WideLaws
+pub mod FoldLaws
+pub mod StepLaws
+pub mod FreeLaws
+pub mod AnswerLaws
+pub mod FoldClaims

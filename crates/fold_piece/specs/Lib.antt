@@ -1,0 +1,4 @@
+pub mod Fold
+pub mod Order
+pub mod FoldAnswer
+pub mod FoldClaims

@@ -1,0 +1,1 @@
+// The folded piece: definitions and what is known of them. The functions are in fold.
