@@ -28,9 +28,9 @@
 #include <stdint.h>
 
 /* Of this header. noferkash_version() has that of the library. */
-#define NOFERKASH_VERSION "0.2.0"
+#define NOFERKASH_VERSION "0.3.0"
 #define NOFERKASH_VERSION_MAJOR 0
-#define NOFERKASH_VERSION_MINOR 2
+#define NOFERKASH_VERSION_MINOR 3
 #define NOFERKASH_VERSION_PATCH 0
 
 /* The largest file, read or written, and the largest text read, in bytes. */
@@ -81,7 +81,13 @@ enum noferkash_number {
     NOFERKASH_STEP_TOO_GREAT = 27,       /* gap in Time over 268,435,455 */
     NOFERKASH_TEXT_CUT_SHORT = 28,       /* ends before End_of_file; number of lines + 1 */
     NOFERKASH_WRITTEN_TOO_LONG = 29,     /* file would pass 1,048,576 bytes; 0 */
-    NOFERKASH_BAD_MANNER = 30            /* neither 0 (full) nor 1 (short); 0 */
+    NOFERKASH_BAD_MANNER = 30,           /* neither 0 (full) nor 1 (short); 0 */
+
+    /* Of folding; places are bytes. */
+    NOFERKASH_TOO_MANY_TRACKS = 31, /* over 64; 10 */
+    NOFERKASH_FORMAT_2 = 32,        /* its tracks are pieces of their own; 8 */
+    NOFERKASH_PREFIX_OR_PORT = 33,  /* Channel_prefix or MIDI_port in a piece of several tracks; event */
+    NOFERKASH_TOO_FEW_ROWS = 37     /* fewer rows than tracks, which noferkash_fold never answers; 10 */
 };
 
 /* Is this a good file? NOFERKASH_OK, or the earliest fault and its place.
@@ -127,6 +133,32 @@ uint64_t noferkash_text_to_file(const uint8_t *text, size_t text_len, uint32_t m
  *   answer gives. So NULL and out_len 0 ask for it. */
 uint64_t noferkash_tidy(const uint8_t *file, size_t file_len, uint8_t *out, size_t out_len);
 
+/* Folds the tracks of a file of format 0 or 1 into one: writes its folded piece
+ * into the buffer `out`, in manner 1 (short). The folded piece has format 0, the
+ * same division and one track: the events of all tracks by Time, at equal Times by
+ * track number, then in their own order. The End_tracks give way to one at the
+ * greatest of their Times; every other event appears exactly once. NOFERKASH_OK and
+ * the length written; bytes of `out` past it stay.
+ *
+ * The folded file is accepted, and its piece is the folded piece. Folding it again
+ * gives its very bytes. A file of format 0 comes back as noferkash_tidy writes it. No
+ * gap in the folded track passes 268,435,455, so nothing is refused for that.
+ *
+ * Refusals, in this order; each leaves all of `out` as it was:
+ * - numbers 1 to 13, as noferkash_check answers them;
+ * - NOFERKASH_FORMAT_2;
+ * - NOFERKASH_TOO_MANY_TRACKS over 64;
+ * - NOFERKASH_PREFIX_OR_PORT at the first Channel_prefix or MIDI_port of a file of
+ *   several tracks: such an event speaks of the rest of its own track, which
+ *   folding would mix with the others;
+ * - NOFERKASH_WRITTEN_TOO_LONG when the folded file would pass 1,048,576 bytes. It may
+ *   be longer than the file: between events of other tracks a status byte has to be
+ *   written that was left out before;
+ * - NOFERKASH_ROOM_TOO_SMALL when out_len is under the length needed, which the
+ *   answer gives. So NULL and out_len 0 ask for it.
+ * NOFERKASH_TOO_FEW_ROWS never comes: here is a row for each of 64 tracks. */
+uint64_t noferkash_fold(const uint8_t *file, size_t file_len, uint8_t *out, size_t out_len);
+
 /* The two functions below are plain C, tested and not proved. The strings that they
  * return are never NULL and must not be freed. */
 
@@ -134,7 +166,7 @@ uint64_t noferkash_tidy(const uint8_t *file, size_t file_len, uint8_t *out, size
  * track"; for every other number "unknown refusal number". */
 const char *noferkash_refusal_words(int number);
 
-/* The version of the library, as "0.2.0". */
+/* The version of the library, as "0.3.0". */
 const char *noferkash_version(void);
 
 #ifdef __cplusplus

@@ -31,6 +31,11 @@ static const char *const words[] = {
     [NOFERKASH_TEXT_CUT_SHORT] = "text ends before End_of_file",
     [NOFERKASH_WRITTEN_TOO_LONG] = "written file would pass 1,048,576 bytes",
     [NOFERKASH_BAD_MANNER] = "manner neither 0 (full) nor 1 (short)",
+
+    [NOFERKASH_TOO_MANY_TRACKS] = "more than 64 tracks cannot be folded",
+    [NOFERKASH_FORMAT_2] = "format 2 cannot be folded",
+    [NOFERKASH_PREFIX_OR_PORT] = "tracks with Channel_prefix or MIDI_port cannot be folded",
+    [NOFERKASH_TOO_FEW_ROWS] = "fewer rows than tracks to fold",
 };
 
 const char *noferkash_refusal_words(int number) {

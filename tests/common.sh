@@ -176,6 +176,11 @@ track() {
     printf "${header}MTrk\\0\\0\\0$1$2"
 }
 
+# pair LENGTH BODY LENGTH BODY: a file of format 1 with two tracks; the first body begins at byte 22.
+pair() {
+    printf "MThd\\0\\0\\0\\6\\0\\1\\0\\2\\0\\x60MTrk\\0\\0\\0$1$2MTrk\\0\\0\\0$3$4"
+}
+
 # text LINE: a text whose line 3 is given.
 text() {
     printf '0, 0, Header, 0, 1, 96\n1, 0, Start_track\n%s\n1, 0, End_track\n0, 0, End_of_file\n' "$1"

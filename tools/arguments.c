@@ -28,12 +28,12 @@ static int take_flag(char flag, struct request *request) {
         return !converts || wrong_usage("-v goes only with check", "", "");
     }
     request->force = 1;
-    return converts || wrong_usage("-f goes only with to-text, to-midi and tidy", "", "");
+    return converts || wrong_usage("-f goes only with to-text, to-midi, tidy and fold", "", "");
 }
 
 static int take_folder(const char *folder, struct request *request) {
     if (request->command == CHECK) {
-        return wrong_usage("-d goes only with to-text, to-midi and tidy", "", "");
+        return wrong_usage("-d goes only with to-text, to-midi, tidy and fold", "", "");
     }
     if (request->folder != NULL) {
         return wrong_usage("-d stands twice", "", "");

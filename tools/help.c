@@ -1,7 +1,7 @@
 /* What the command line tool says of itself. */
 #include "tool.h"
 
-static const char *const names[COMMANDS] = {"check", "to-text", "to-midi", "tidy"};
+static const char *const names[COMMANDS] = {"check", "to-text", "to-midi", "tidy", "fold"};
 
 enum command command_named(const char *name) {
     int command = 0;
@@ -16,12 +16,14 @@ static const char all[] =
     "       noferkash to-text [-f]      [IN [OUT]]  |  -d FOLDER FILE...\n"
     "       noferkash to-midi [-f] [-x] [IN [OUT]]  |  -d FOLDER FILE...\n"
     "       noferkash tidy    [-f]      [IN [OUT]]  |  -d FOLDER FILE...\n"
+    "       noferkash fold    [-f]      [IN [OUT]]  |  -d FOLDER FILE...\n"
     "       noferkash help [COMMAND] | --version\n"
     "\n"
     "  check    says whether each FILE is a good Standard MIDI File\n"
     "  to-text  writes a Standard MIDI File as MIDICSV text\n"
     "  to-midi  writes a MIDICSV text as a Standard MIDI File\n"
     "  tidy     writes a Standard MIDI File again in the fewest bytes\n"
+    "  fold     writes it again with all its tracks in one, as format 0\n"
     "\n"
     "IN and OUT are standard input and output where left out or \"-\". An existing\n"
     "file is replaced only with -f. Exit status: 0 good; 1 refused, with a line for each\n"
@@ -68,8 +70,16 @@ static const char tidy[] =
     "The music stays the same. OUT may be IN.\n"
     "\n" FOLDER_OPTION REPLACING " or IN itself\n";
 
+static const char fold[] =
+    "usage: noferkash fold [-f] [IN [OUT]]\n"
+    "       noferkash fold [-f] -d FOLDER FILE...\n"
+    "\n"
+    "Writes the Standard MIDI File IN again with all its tracks in one, as format 0, to OUT\n"
+    "or FOLDER/NAME.mid. OUT is never IN, which keeps the tracks.\n"
+    "\n" FOLDER_OPTION REPLACING "\n";
+
 const char *help_for(enum command command) {
-    static const char *const texts[COMMANDS + 1] = {check, to_text, to_midi, tidy, all};
+    static const char *const texts[COMMANDS + 1] = {check, to_text, to_midi, tidy, fold, all};
     return texts[command];
 }
 

@@ -117,6 +117,7 @@ static int replace_held(const struct request *request, const char *name, const s
 static int replace(const struct request *request, const char *name, const struct stat *old,
                    struct bytes made, const struct input *in, struct files *files) {
     int is_own = is_same(&in->identity, old);
+    /* Tidied it says the same; but a folded one has lost its tracks. */
     if (is_own && request->command != TIDY) {
         return say_kept(name, "is the file that is read; nothing was written");
     }

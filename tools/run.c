@@ -14,6 +14,8 @@
 
 /* "refused 28 at line 33554433: " and the words take less. */
 #define LINE_ROOM (EXPLAIN_ROOM + 64)
+/* " at line 33554433" takes less. */
+#define PLACE_ROOM 32
 /* "good: 65535 tracks, 1048576 bytes" takes less, and so does what is said of failures. */
 #define GOOD_ROOM 64
 /* Where the header of a good file counts its tracks. */
@@ -27,6 +29,7 @@ static size_t enough_room(enum command command, size_t input_length) {
         return 25 * input_length;
     case TO_MIDI:
     case TIDY:
+    case FOLD:
         return NOFERKASH_FILE_LIMIT;
     default:
         return 0;
@@ -41,27 +44,37 @@ static uint64_t call(const struct request *request, struct bytes in, struct byte
         return noferkash_text_to_file(in.at, in.length, request->manner, out.at, out.length);
     case TIDY:
         return noferkash_tidy(in.at, in.length, out.at, out.length);
+    case FOLD:
+        return noferkash_fold(in.at, in.length, out.at, out.length);
     default:
         return noferkash_check(in.at, in.length);
     }
 }
 
-/* Bytes count from 0, lines from 1. The other numbers are about the whole, and
- * their place, 0, would only mislead. */
+/* Bytes count from 0, lines from 1. Of the other numbers, which are about the whole,
+ * the place, 0, would only mislead. */
+static void place_words(uint64_t answer, char place[PLACE_ROOM]) {
+    int number = NOFERKASH_NUMBER(answer);
+    int of_file =
+        number >= NOFERKASH_FILE_CUT_SHORT && number <= NOFERKASH_BYTES_AFTER_LAST_TRACK;
+    int of_folding = number >= NOFERKASH_TOO_MANY_TRACKS && number <= NOFERKASH_TOO_FEW_ROWS;
+    int of_text = number >= NOFERKASH_BAD_FIELD && number <= NOFERKASH_TEXT_CUT_SHORT;
+    place[0] = '\0';
+    if (of_file || of_folding || of_text) {
+        snprintf(place, PLACE_ROOM, " at %s %zu", of_text ? "line" : "byte",
+                 NOFERKASH_PLACE(answer));
+    }
+}
+
 static void say_refusal(const struct request *request, const char *name, struct bytes in,
                         uint64_t answer) {
-    int number = NOFERKASH_NUMBER(answer);
-    char place[32] = "";
-    if (number >= NOFERKASH_FILE_CUT_SHORT && number <= NOFERKASH_BYTES_AFTER_LAST_TRACK) {
-        snprintf(place, sizeof place, " at byte %zu", NOFERKASH_PLACE(answer));
-    } else if (number >= NOFERKASH_BAD_FIELD && number <= NOFERKASH_TEXT_CUT_SHORT) {
-        snprintf(place, sizeof place, " at line %zu", NOFERKASH_PLACE(answer));
-    }
+    char place[PLACE_ROOM];
+    place_words(answer, place);
     char words[EXPLAIN_ROOM];
     explain_refusal(request->command == TO_MIDI ? AS_TEXT : AS_FILE, in.at, in.length, answer,
                     words, sizeof words);
     char line[LINE_ROOM];
-    snprintf(line, sizeof line, "refused %d%s: %s", number, place, words);
+    snprintf(line, sizeof line, "refused %d%s: %s", NOFERKASH_NUMBER(answer), place, words);
     say_of_file(input_name(name), line);
 }
 

@@ -10,7 +10,7 @@
 /* Exit statuses: of several files the greatest counts. */
 enum outcome { GOOD = 0, REFUSED = 1, FAILED = 2 };
 
-enum command { CHECK, TO_TEXT, TO_MIDI, TIDY, COMMANDS };
+enum command { CHECK, TO_TEXT, TO_MIDI, TIDY, FOLD, COMMANDS };
 
 struct bytes {
     uint8_t *at;

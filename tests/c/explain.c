@@ -1,5 +1,5 @@
 /* Prints the words of tools/explain for inputs from standard input:
- *   explain file|text         the input: refused N at P: WORDS, or good
+ *   explain file|fold|text    the input, checked, folded or made a file: refused N at P: WORDS, or good
  *   explain lines N           each line of the input as line N of a good text
  *   explain show MOST         the input, shown in at most so many bytes
  *   explain answer file|text N P   the input, with a made-up answer
@@ -41,8 +41,12 @@ static struct input read_all(void)
     return input;
 }
 
+static int folds;
+
 static uint64_t answer_to(enum read_as read_as, struct input input)
 {
+    if (folds)
+        return noferkash_fold(input.at, input.length, file_room, sizeof file_room);
     return read_as == AS_FILE
                ? noferkash_check(input.at, input.length)
                : noferkash_text_to_file(input.at, input.length, 1, file_room, sizeof file_room);
@@ -169,9 +173,10 @@ int main(int argc, char **argv)
         print_words(strcmp(argv[2], "file") == 0 ? AS_FILE : AS_TEXT, input,
                     (uint64_t)atoi(argv[3]) << 56 | (uint64_t)atol(argv[4]) << 28);
         free(input.at);
-    } else if (strcmp(what, "file") == 0 || strcmp(what, "text") == 0) {
+    } else if (strcmp(what, "file") == 0 || strcmp(what, "fold") == 0 || strcmp(what, "text") == 0) {
         struct input input = read_all();
-        print(strcmp(what, "file") == 0 ? AS_FILE : AS_TEXT, input);
+        folds = strcmp(what, "fold") == 0;
+        print(strcmp(what, "text") == 0 ? AS_TEXT : AS_FILE, input);
         free(input.at);
     } else {
         fprintf(stderr, "explain: wrong usage\n");

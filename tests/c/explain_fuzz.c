@@ -1,8 +1,9 @@
 /* Damages files or texts, and looks at the words about each refusal:
- *   explain_fuzz file|text SEED COUNT FILE..
+ *   explain_fuzz file|fold|text SEED COUNT FILE..
  * Words are one line without control bytes and never empty; and they must be true, as the library
  * itself says: what they call missing mends the file when it is added, what they call due mends the
- * field when it is written there. Made-up answers are tried too, for reading outside the input.
+ * field when it is written there, and the text of a file that cannot be folded has what they name.
+ * Made-up answers are tried too, for reading outside the input.
  * Prints for each number how many were refused, and how many got the words by number alone. */
 #include <stdio.h>
 #include <stdlib.h>
@@ -18,6 +19,7 @@
 static struct input inputs[MOST_INPUTS], damaged, mended;
 static size_t inputs_count;
 static enum read_as read_as;
+static int folds;
 static char words[EXPLAIN_ROOM];
 static unsigned long refused[256], by_number[256], mended_count, failures;
 
@@ -25,6 +27,8 @@ static uint64_t answer_to(const struct input *input)
 {
     static uint8_t room[NOFERKASH_FILE_LIMIT];
 
+    if (folds)
+        return noferkash_fold(input->at, input->length, room, sizeof room);
     return read_as == AS_FILE
                ? noferkash_check(input->at, input->length)
                : noferkash_text_to_file(input->at, input->length, 1, room, sizeof room);
@@ -127,6 +131,47 @@ static void look_at_file(const struct input *file, uint64_t answer)
         mend_file(file, answer, due - there);
 }
 
+/* The first line with this record, or NULL, and what its name ends before. */
+static const char *line_with(const char *text, const char *name, const char **rest)
+{
+    const char *at = strstr(text, name);
+
+    if (at == NULL)
+        return NULL;
+    *rest = at + strlen(name);
+    while (at > text && at[-1] != '\n')
+        at--;
+    return at;
+}
+
+/* The words by the text of the file, which is good but cannot be folded. */
+static void look_at_folding(const struct input *file, uint64_t answer)
+{
+    static char text[25 * ROOM + 1];
+    char due[EXPLAIN_ROOM] = "";
+    const char *channel, *port, *prefix, *number;
+    unsigned long format = 0, tracks = 0;
+    uint64_t made = noferkash_file_to_text(file->at, file->length, (uint8_t *)text, 25 * ROOM);
+
+    text[NOFERKASH_LENGTH(made)] = 0;
+    sscanf(text, "0, 0, Header, %lu, %lu", &format, &tracks);
+    prefix = line_with(text, ", Channel_prefix, ", &channel);
+    port = line_with(text, ", MIDI_port, ", &number);
+    if (NOFERKASH_NUMBER(answer) == NOFERKASH_FORMAT_2 && format == 2)
+        strcpy(due, "format 2: its tracks are pieces of their own");
+    else if (NOFERKASH_NUMBER(answer) == NOFERKASH_TOO_MANY_TRACKS)
+        sprintf(due, "%lu tracks, and at most 64 can be folded", tracks);
+    else if (prefix != NULL && (port == NULL || prefix < port))
+        sprintf(due, "track %lu has a Channel_prefix (channel %lu), which speaks of its own track only",
+                strtoul(prefix, NULL, 10), strtoul(channel, NULL, 10));
+    else if (port != NULL)
+        sprintf(due, "track %lu has a MIDI_port (port %lu), which speaks of its own track only",
+                strtoul(port, NULL, 10), strtoul(number, NULL, 10));
+    mended_count++;
+    if (strcmp(after_given(), due) != 0)
+        fail("the text says otherwise");
+}
+
 static int find_written(const struct input *text, size_t place, size_t number, struct part *written)
 {
     struct part rest = {text->at, text->length}, line;
@@ -216,7 +261,7 @@ static void look_at_text(const struct input *text, uint64_t answer)
 /* An answer that the library would not give. */
 static void make_up(const struct input *input)
 {
-    uint64_t number = below(8) ? 1 + below(29) : below(256);
+    uint64_t number = below(8) ? 1 + below(37) : below(256);
     uint64_t place = below(8) ? below(input->length + 8) : below(1 << 28);
 
     if (below(2))
@@ -241,7 +286,10 @@ static void try_one(void)
     refused[number]++;
     explain(read_as, &damaged, answer);
     by_number[number] += strcmp(after_given(), noferkash_refusal_words(number)) == 0;
-    read_as == AS_FILE ? look_at_file(&damaged, answer) : look_at_text(&damaged, answer);
+    if (number >= NOFERKASH_TOO_MANY_TRACKS)
+        look_at_folding(&damaged, answer);
+    else
+        read_as == AS_FILE ? look_at_file(&damaged, answer) : look_at_text(&damaged, answer);
 }
 
 static void load(const char *name)
@@ -266,7 +314,8 @@ int main(int argc, char **argv)
 
     if (argc < 5)
         return 2;
-    read_as = strcmp(argv[1], "file") == 0 ? AS_FILE : AS_TEXT;
+    folds = strcmp(argv[1], "fold") == 0;
+    read_as = strcmp(argv[1], "text") == 0 ? AS_TEXT : AS_FILE;
     seed_with(strtoull(argv[2], NULL, 10));
     for (i = 4; i < argc; i++)
         load(argv[i]);

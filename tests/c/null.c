@@ -31,6 +31,7 @@ static void no_output(const char *what, const void *bytes, size_t length) {
     due(what, noferkash_file_to_text(bytes, length, NULL, 0),
         noferkash_file_to_text(bytes, length, one, 0));
     due(what, noferkash_tidy(bytes, length, NULL, 0), noferkash_tidy(bytes, length, one, 0));
+    due(what, noferkash_fold(bytes, length, NULL, 0), noferkash_fold(bytes, length, one, 0));
     for (uint32_t manner = 0; manner <= 2; manner++) {
         due(what, noferkash_text_to_file(bytes, length, manner, NULL, 0),
             noferkash_text_to_file(bytes, length, manner, one, 0));
@@ -44,10 +45,39 @@ static void no_input(uint8_t *out, size_t out_len) {
     due("no file", noferkash_check(NULL, 0), no_file);
     due("no file", noferkash_file_to_text(NULL, 0, out, out_len), no_file);
     due("no file", noferkash_tidy(NULL, 0, out, out_len), no_file);
+    due("no file", noferkash_fold(NULL, 0, out, out_len), no_file);
     due("no text", noferkash_text_to_file(NULL, 0, 0, out, out_len), no_text);
     due("no text", noferkash_text_to_file(NULL, 0, 1, out, out_len), no_text);
     due("no text", noferkash_text_to_file(NULL, 0, 2, out, out_len),
         answer_of(NOFERKASH_BAD_MANNER, 0, 0));
+}
+
+/* A file of tracks that hold nothing. */
+static size_t many_tracks(int format, int count, uint8_t *file) {
+    size_t length = sizeof TWO_TRACKS - 1;
+    memcpy(file, TWO_TRACKS, length);
+    file[9] = (uint8_t)format;
+    file[11] = (uint8_t)count;
+    for (; count > 0; count--, length += sizeof CHUNK("\4", END) - 1) {
+        memcpy(file + length, CHUNK("\4", END), sizeof CHUNK("\4", END) - 1);
+    }
+    return length;
+}
+
+/* What cannot be folded, and what can: without room the answer is 14 and the length. */
+static void foldings(void) {
+    static uint8_t file[14 + 12 * 65];
+    static const char port[] = TWO_TRACKS CHUNK("\4", END) CHUNK("\11", "\0\xFF\x21\1\0" END);
+    size_t length = many_tracks(1, 65, file);
+    due("65 tracks", noferkash_fold(file, length, NULL, 0),
+        answer_of(NOFERKASH_TOO_MANY_TRACKS, 10, 0));
+    length = many_tracks(1, 64, file);
+    due("64 tracks", noferkash_fold(file, length, NULL, 0),
+        answer_of(NOFERKASH_ROOM_TOO_SMALL, 0, sizeof ONLY_END - 1));
+    length = many_tracks(2, 2, file);
+    due("format 2", noferkash_fold(file, length, NULL, 0), answer_of(NOFERKASH_FORMAT_2, 8, 0));
+    due("a port", noferkash_fold((const uint8_t *)port, sizeof port - 1, NULL, 0),
+        answer_of(NOFERKASH_PREFIX_OR_PORT, 34, 0));
 }
 
 #define EACH(array, i) (size_t i = 0; i < sizeof array / sizeof array[0]; i++)
@@ -85,12 +115,17 @@ int main(void) {
     }
     strcpy((char *)much + written, "\n" END_LINES);
     no_output("file too long", much, strlen((char *)much));
+    foldings();
 
-    for (int number = 1; number <= 30; number++) {
+    for (int number = 1; number <= NOFERKASH_PREFIX_OR_PORT; number++) {
         if ((number <= 14 || number >= 21) && met[number] == 0) {
             failed++;
             printf("FAILED: %d was never met\n", number);
         }
+    }
+    if (met[NOFERKASH_TOO_FEW_ROWS] > 0) {
+        failed++;
+        printf("FAILED: %d was met\n", NOFERKASH_TOO_FEW_ROWS);
     }
     printf("%u calls, %u failed\n", count, failed);
     return failed != 0;

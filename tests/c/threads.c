@@ -1,4 +1,4 @@
-/* threads FILE..: threads that run at once call all four functions on the same input, each into a
+/* threads FILE..: threads that run at once call all five functions on the same input, each into a
  * buffer of its own, and must get the answers and the bytes that one thread got before. Each file
  * is taken as it is, cut short, and with a byte changed, so that refusals are met too. */
 #define _XOPEN_SOURCE 700
@@ -14,7 +14,7 @@
 #define GUARD 0xA5
 #define FENCE 16
 
-enum call { CHECK, TO_TEXT, TIDY, TO_FULL, TO_SHORT, CALLS };
+enum call { CHECK, TO_TEXT, TIDY, FOLD, TO_FULL, TO_SHORT, CALLS };
 
 struct bytes {
     uint8_t *at;
@@ -53,6 +53,8 @@ static uint64_t run(enum call call, const struct input *input, uint8_t *out) {
         return noferkash_file_to_text(file.at, file.length, out, out_len);
     case TIDY:
         return noferkash_tidy(file.at, file.length, out, out_len);
+    case FOLD:
+        return noferkash_fold(file.at, file.length, out, out_len);
     case TO_FULL:
         return noferkash_text_to_file(text.at, text.length, 0, out, out_len);
     case TO_SHORT:

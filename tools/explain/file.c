@@ -8,6 +8,9 @@
 
 enum { HEADER_SIZE = 14, CHUNK_START = 8 };
 
+/* Types of meta events, and how many tracks fold into one. */
+enum { CHANNEL_PREFIX = 0x20, MIDI_PORT = 0x21, MOST_FOLDED = 64 };
+
 /* A track's chunk; `events` is where its events begin. It may pass the file's end. */
 struct chunk {
     size_t number, events, end;
@@ -173,6 +176,17 @@ static int pass_event(const uint8_t *file, size_t *at, size_t end, uint8_t *stat
     return known;
 }
 
+/* Whether an event begins at the place, and the running status there. */
+static int begins_at(struct part file, const struct chunk *chunk, size_t place, uint8_t *status) {
+    size_t at = chunk->events;
+    int good = 1;
+    *status = 0;
+    while (good && at < place) {
+        good = pass_event(file.at, &at, chunk->end, status);
+    }
+    return good && at == place;
+}
+
 /* 6. */
 static int say_missing(struct part file, size_t place, struct words *words) {
     struct chunk chunk;
@@ -183,13 +197,9 @@ static int say_missing(struct part file, size_t place, struct words *words) {
     if (place == chunk.end) {
         return say(words, "track %zu ends without End_track", chunk.number);
     }
-    uint8_t status = 0;
-    size_t at = chunk.events;
-    int good = 1;
-    while (good && at < place) {
-        good = pass_event(file.at, &at, chunk.end, &status);
-    }
-    if (!good || at != place) {
+    uint8_t status;
+    size_t at = place;
+    if (!begins_at(file, &chunk, place, &status)) {
         return 0;
     }
     if (!pass_event(file.at, &at, chunk.end, &status)) {
@@ -208,6 +218,51 @@ static int say_track(struct part file, int number, size_t place, struct words *w
            say(words, "track %zu: %s", chunk.number, noferkash_refusal_words(number));
 }
 
+/* 31. */
+static int say_many(struct part file, struct words *words) {
+    uint32_t tracks = file.length < HEADER_SIZE ? 0 : big_endian(file.at + 10, 2);
+    return tracks > MOST_FOLDED && say(words, "%" PRIu32 " tracks, and at most %d can be folded",
+                                       tracks, MOST_FOLDED);
+}
+
+/* 32. */
+static int say_format(struct part file, struct words *words) {
+    uint32_t format = file.length < HEADER_SIZE ? 0 : big_endian(file.at + 8, 2);
+    return format == 2 && say(words, "format 2: its tracks are pieces of their own");
+}
+
+/* The type and the value of a meta event of one byte at the place; 0 if there is none. */
+static int read_small_meta(struct part file, const struct chunk *chunk, size_t at, uint8_t *type,
+                           uint8_t *value) {
+    uint32_t number;
+    if (!read_variable(file.at, &at, chunk->end, &number) || at + 2 > chunk->end ||
+        file.at[at] != 0xFF) {
+        return 0;
+    }
+    *type = file.at[at + 1];
+    at += 2;
+    if (!read_variable(file.at, &at, chunk->end, &number) || number != 1 || at >= chunk->end) {
+        return 0;
+    }
+    *value = file.at[at];
+    return 1;
+}
+
+/* 33. */
+static int say_aimed(struct part file, size_t place, struct words *words) {
+    struct chunk chunk;
+    uint8_t status;
+    uint8_t type;
+    uint8_t value;
+    if (!chunk_round(file, place, &chunk) || !begins_at(file, &chunk, place, &status) ||
+        !read_small_meta(file, &chunk, place, &type, &value) ||
+        (type != CHANNEL_PREFIX && type != MIDI_PORT)) {
+        return 0;
+    }
+    return say(words, "track %zu has a %s %d), which speaks of its own track only", chunk.number,
+               type == MIDI_PORT ? "MIDI_port (port" : "Channel_prefix (channel", value);
+}
+
 int explain_file(struct part file, int number, size_t place, struct words *words) {
     switch (number) {
     case NOFERKASH_FILE_CUT_SHORT:
@@ -218,6 +273,12 @@ int explain_file(struct part file, int number, size_t place, struct words *words
         return say_tag(file, place, words);
     case NOFERKASH_EVENT_CUT_SHORT:
         return say_missing(file, place, words);
+    case NOFERKASH_TOO_MANY_TRACKS:
+        return say_many(file, words);
+    case NOFERKASH_FORMAT_2:
+        return say_format(file, words);
+    case NOFERKASH_PREFIX_OR_PORT:
+        return say_aimed(file, place, words);
     case NOFERKASH_FILE_TOO_LONG:
     case NOFERKASH_BYTES_AFTER_LAST_TRACK:
         return 0;

@@ -37,7 +37,7 @@ const char *grouped(uint64_t number, char shown[GROUPED_ROOM]);
 /* What was really given, without the semicolon after it. */
 int say_given(enum read_as read_as, struct part input, struct words *words);
 
-/* About 2 to 12. */
+/* About 2 to 12 and 31 to 33. */
 int explain_file(struct part file, int number, size_t place, struct words *words);
 
 /* About 22 to 25: one line alone. */

@@ -5,7 +5,8 @@ use second::refusal::Answer;
 
 use super::{answer_to_text, cells, refused, text_with, Tally};
 
-/// Numbers with at least one example: 1..14 and 21..30.
+/// Numbers with at least one example: 1..14 and 21..30. Those of folding are tried by
+/// tests/pages.d/refusals.
 const NUMBERS: usize = 24;
 /// Examples that are no cell of a table stand in lines indented so.
 pub const INDENT: &str = "    ";
@@ -30,7 +31,7 @@ pub fn examples(page: &str, tally: &mut Tally) {
 
 /// The cells of a row that begins with a number.
 fn row(line: &str) -> Option<Vec<&str>> {
-    cells(line, 6).filter(|cells| cells[0].parse::<u8>().is_ok())
+    cells(line, 6).filter(|cells| matches!(cells[0].parse::<u8>(), Ok(1..=30)))
 }
 
 /// `file: place`, refused by each operation that takes a file.
