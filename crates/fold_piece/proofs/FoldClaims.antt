@@ -8,9 +8,11 @@ use Rattle.smf.specs.Piece.{Piece, LawfulPiece}
 use Rattle.smf.specs.Spelling.{PermittedPiece}
 use Rattle.smf.specs.Layout.{LaidOut}
 use Rattle.smf.specs.Reader.{fileLimit}
+use Rattle.smf.specs.Walk.{Placed}
 use Rattle.smf.proofs.DemandLaws.{laid-read}
 use Rattle.fold_piece.specs.Fold.{joined, byTime, foldedPiece}
-use Rattle.fold_piece.specs.FoldClaims.{EventsFolded, PieceFolded, FileFolded, FoldClaims}
+use Rattle.fold_piece.specs.FoldAnswer.{rowsLeave}
+use Rattle.fold_piece.specs.FoldClaims.{EventsFolded, PieceFolded, FileFolded, RowsFolded, FoldClaims}
 use Rattle.fold_piece.proofs.OrderLaws.{only-one, perm-byTime}
 use Rattle.fold_piece.proofs.TrackLaws.{folded-rising, folded-at, fold-steps}
 use Rattle.fold_piece.proofs.WideLaws.{tracks-steps}
@@ -48,5 +50,9 @@ file-folded f p laid h =
       zero = λ rows one z. zero-tidies rows f p _ (laid-read f p laid h) law z one;
     }
 
+rows-folded : (rows : ℕ) (f : List ℕ) (g : Placed → ℕ) (old : List ℕ) → RowsFolded rows f g old
+unfolding rowsLeave
+rows-folded rows f g old = record { folded = λ p r e. rw e refl; refused = λ n q e. rw e refl }
+
 pub all-claims : FoldClaims
-all-claims = record { events = events-folded; piece = piece-folded; file = file-folded; rows = λ f q bs. never-37 f q bs }
+all-claims = record { events = events-folded; piece = piece-folded; file = file-folded; shown = rows-folded; rows = λ f q bs. never-37 f q bs }

@@ -1,8 +1,8 @@
 -- What document 02 asks to be shown of the folded piece.
 use mathlib.Core.Path.{_≡_}
 use Prim.Native.Nat.{ℕ, _≤_}
-use mathlib.Core.List.{List, [], List·Permᴰ}
-use lib.ListN.{length}
+use mathlib.Core.List.{List, [], _++_, List·Permᴰ}
+use lib.ListN.{length, drop}
 use Rattle.event.specs.Bytes.{Bytes}
 use Rattle.event.specs.Event.{Event}
 use Rattle.event.specs.Manner.{Manner, short}
@@ -11,9 +11,11 @@ use Rattle.smf.specs.Piece.{Piece, LawfulPiece}
 use Rattle.smf.specs.Layout.{LaidOut}
 use Rattle.smf.specs.Manner.{fileOf}
 use Rattle.smf.specs.Reader.{fileLimit, readFile}
+use Rattle.smf.specs.Walk.{Placed}
+use Rattle.smf.specs.PlacedFile.{placedFile}
 use Rattle.fold_piece.specs.Fold.{joined, byTime, foldedTrack, foldedPiece}
 use Rattle.fold_piece.specs.Order.{Rising, at, eachAt, Steps}
-use Rattle.fold_piece.specs.FoldAnswer.{mostTracks, foldOutcome}
+use Rattle.fold_piece.specs.FoldAnswer.{mostTracks, foldOutcome, endsShown, rowsLeave}
 
 -- of any tracks
 pub record EventsFolded (ts : List (List Event)) : Type 0 where
@@ -47,9 +49,17 @@ pub record FileFolded (f : List ℕ) (p : Piece) : Type 0 where
   -- "A format 0 piece comes back the same": with a row lent, folding such a file is tidying it
   pub zero : (rows : ℕ) → 1 ≤ rows → p .format ≡ 0 → foldOutcome rows f ≡ readFile f
 
+-- of the numbers of one kind that the rows hold: "After a fold, even one answered 29 or 14, row n shows track n's End_track .. and spare
+-- rows stay", whatever the room and the length of the folded file; on every other refusal all stay
+pub record RowsFolded (rows : ℕ) (f : List ℕ) (g : Placed → ℕ) (old : List ℕ) : Type 0 where
+  pub folded : (p : Piece) (r : List ℕ) → foldOutcome rows f ≡ ok p r
+      → rowsLeave g (foldOutcome rows f) (placedFile f) old ≡ endsShown g (placedFile f) ++ drop (length (placedFile f)) old
+  pub refused : (n q : ℕ) → foldOutcome rows f ≡ refused n q → rowsLeave g (foldOutcome rows f) (placedFile f) old ≡ old
+
 pub record FoldClaims : Type 0 where
   pub events : (ts : List (List Event)) → EventsFolded ts
   pub piece : (p : Piece) → LawfulPiece p → PieceFolded p
   pub file : (f : List ℕ) (p : Piece) → LaidOut f p → length f ≤ fileLimit → FileFolded f p
+  pub shown : (rows : ℕ) (f : List ℕ) (g : Placed → ℕ) (old : List ℕ) → RowsFolded rows f g old
   -- with a row for each of the tracks that it may have there is no 37, whatever the bytes
   pub rows : (f : List ℕ) (place : ℕ) → Bytes f → foldOutcome mostTracks f ≡ refused 37 place → ⊥
