@@ -1,6 +1,6 @@
 //! Refusal numbers and answers.
 
-/// The refusal numbers of document 01.
+/// The refusal numbers of document 01, and those that document 02 adds.
 #[derive(Clone, Copy, Debug, PartialEq, Eq, PartialOrd, Ord)]
 #[repr(u8)]
 pub enum Number {
@@ -28,6 +28,10 @@ pub enum Number {
     TextCutShort = 28,
     WrittenTooLong = 29,
     Manner = 30,
+    TooManyTracks = 31,
+    FormatTwo = 32,
+    PrefixOrPort = 33,
+    TooFewRows = 37,
 }
 
 /// A refusal met in reading: bytes count from 0, lines from 1.
