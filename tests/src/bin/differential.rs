@@ -13,7 +13,7 @@ use second::compare::Operation;
 use second::fold;
 use second::generate::{
     aims, benchmark_file, file_case, fold_limit_cases, good_file, limit_cases, many_tracks_case,
-    mutated_copy, mutated_text, piece, plain_text, text_case, text_limit_cases, LimitCase, Rng,
+    mutated_copy, mutated_text, piece, plain_text, text_case, text_limit_cases, Rng,
 };
 use second::operations;
 use second::outside::{expected, expected_fold, has_film_division, kept, outside_files};
@@ -114,7 +114,7 @@ fn on_files(mut run: Run, due: &[u8], cases: u64, first: u64) -> bool {
 
 fn file_sources(run: &mut Run, cases: u64, first: u64) {
     let outside: Vec<Vec<u8>> = outside_files().into_iter().map(|(_, file)| file).collect();
-    let limits = files_of(limit_cases());
+    let limits: Vec<Vec<u8>> = limit_cases().into_iter().map(|case| case.file).collect();
     let long = benchmark_file();
 
     run.source(GENERATED, first..first + cases, file_case);
@@ -131,7 +131,7 @@ fn file_sources(run: &mut Run, cases: u64, first: u64) {
 /// Compares fold: on files made for it, and on the same as the others.
 fn on_tracks(mut run: Run, cases: u64, first: u64) -> bool {
     run.source("many tracks", first..first + cases, many_tracks_case);
-    in_rooms(&mut run, "fold limits", &files_of(fold_limit_cases()));
+    run.file_limits("fold limits", &fold_limit_cases());
     file_sources(&mut run, cases / 2, first);
     // Not 27: no folded step is longer than one of the file. Not 37: it has rows enough.
     let due: Vec<u8> = (0..=14).chain([29, 31, 32, 33]).collect();
@@ -158,20 +158,12 @@ fn on_texts(mut run: Run, cases: u64, first: u64) -> bool {
     run.report(&due)
 }
 
-fn files_of(cases: Vec<LimitCase>) -> Vec<Vec<u8>> {
-    cases.into_iter().map(|case| case.file).collect()
-}
-
-/// Compares on what the fuzzer found worth keeping.
+/// Compares on what the fuzzer found worth keeping, each in several manners and rooms.
 fn on_kept(run: &mut Run, kind: &str) {
-    in_rooms(run, "kept", &kept(kind));
-}
-
-/// Compares on each of the inputs in several manners and rooms.
-fn in_rooms(run: &mut Run, name: &'static str, inputs: &[Vec<u8>]) {
     const TIMES: u64 = 8;
-    let cases = TIMES * inputs.len() as u64;
-    run.source(name, 0..cases, |seed| inputs[(seed / TIMES) as usize].clone());
+    let kept = kept(kind);
+    let cases = TIMES * kept.len() as u64;
+    run.source("kept", 0..cases, |seed| kept[(seed / TIMES) as usize].clone());
 }
 
 /// Outside files tidy to what csvmidi makes of their text, whatever their
