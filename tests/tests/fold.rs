@@ -206,6 +206,8 @@ fn large_files_are_as_said() {
         let size = match case.what {
             "folded to one byte under the limit" => 1_048_575,
             "folded to the limit" => 1_048_576,
+            // The text has a delta, FF 01, three bytes of length and then its data.
+            "one long text" => 26 + 4 * 2 * 9 + 1_000_006,
             "64 tracks, one status" => 27 + 3 * 64 * 5_456,
             _ => 0,
         };

@@ -2,6 +2,7 @@
 //! and those refused before that is seen.
 
 use super::at_limit::{chunk, LimitCase, END_TRACK};
+use crate::number::{fewest_bytes, write_variable};
 use crate::FILE_MAX;
 
 /// The number due is that of a fold in room enough.
@@ -15,6 +16,7 @@ pub fn fold_limit_cases() -> Vec<LimitCase> {
         case("folded to one byte over the limit", folded_to(FILE_MAX + 1), 29, 0),
         case("two tracks at the limit, statuses in turn", own_statuses(2, 174_756), 29, 0),
         case("one byte over the limit", [own_statuses(2, 174_756), vec![0]].concat(), 1, 0),
+        case("one long text", in_turn(1, 2, 9, own_status, &text(1_000_000)), 0, 0),
         case("64 tracks, one status", in_turn(1, 64, 5_456, |_| 0x90, &[]), 0, 0),
         case("64 tracks, statuses in turn", own_statuses(64, 5_456), 29, 0),
         case("65 tracks, one status", in_turn(1, 65, 5_372, |_| 0x90, &[]), 31, 10),
@@ -61,7 +63,13 @@ fn in_turn(
 fn folded_to(size: usize) -> Vec<u8> {
     const NOTES: usize = 131_000;
     // The text has a delta, FF 01, two bytes of length and then this many.
-    let data = size - 26 - 8 * NOTES - 5;
-    let head = [0, 0xFF, 1, (data >> 7 | 0x80) as u8, (data & 0x7F) as u8];
-    in_turn(1, 2, NOTES, own_status, &[&head[..], &vec![b'a'; data]].concat())
+    in_turn(1, 2, NOTES, own_status, &text(size - 26 - 8 * NOTES - 5))
+}
+
+fn text(length: usize) -> Vec<u8> {
+    let mut event = vec![0, 0xFF, 1];
+    let width = fewest_bytes(length as u32).expect("shorter than a file");
+    write_variable(length as u32, width, &mut event);
+    event.resize(event.len() + length, b'a');
+    event
 }
