@@ -5,6 +5,7 @@ mod common;
 use std::collections::{BTreeMap, BTreeSet};
 
 use common::{folded, tidied, UNTOUCHED};
+use second::coverage::Coverage;
 use second::fold::{self, fold_rows};
 use second::generate::{file_case, many_tracks_case, many_tracks_piece, room, spelling, Rng};
 use second::number::{read_variable, VARIABLE_MAX};
@@ -179,6 +180,7 @@ fn rows_lead_to_the_end_tracks() {
 #[test]
 fn the_generator_meets_every_number_and_count() {
     let (mut numbers, mut counts, mut formats) = (BTreeMap::new(), BTreeSet::new(), [0; 3]);
+    let mut held = Coverage::default();
     for seed in 0..20_000 {
         let file = many_tracks_case(seed);
         let asked = fold::fold(&file, &mut []);
@@ -188,9 +190,14 @@ fn the_generator_meets_every_number_and_count() {
         if let Ok(piece) = read_file(&file) {
             counts.insert(piece.tracks.len());
             formats[usize::from(piece.format.number())] += 1;
+            if asked.number == 14 {
+                held.add(&piece);
+            }
         }
     }
-    println!("seeds 0..20000: {numbers:?}, formats {formats:?}");
+    println!("seeds 0..20000: {numbers:?}, formats {formats:?}; {}", held.summary());
+    let records = held.missing().into_iter().filter(|word| !word.contains(' '));
+    assert_eq!(records.collect::<Vec<_>>(), [""; 0], "records never folded");
     assert!(counts.into_iter().eq(1..=66), "a count of tracks was not met");
     for (number, least) in [(0, 8_000), (14, 3_000), (31, 100), (32, 500), (33, 500)] {
         assert!(numbers.get(&number).is_some_and(|count| *count >= least), "{number}: {numbers:?}");
