@@ -62,17 +62,16 @@ fn unfit(piece: &Piece, places: &Places, rows: usize) -> Option<Refusal> {
     }
     // In the file's order: all of track 1, then all of track 2, and so on.
     let events = piece.tracks.iter().flat_map(|track| &track.events);
-    let is_prefix_or_port =
-        |event: &Event| matches!(event.kind, Kind::ChannelPrefix(_) | Kind::MidiPort(_));
-    let mut faults =
-        events.zip(places.iter().flatten()).filter(|(event, _)| is_prefix_or_port(event));
-    faults.next().and_then(|(_, place)| refusal(Number::PrefixOrPort, *place))
+    let (_, place) = events
+        .zip(places.iter().flatten())
+        .find(|(event, _)| matches!(event.kind, Kind::ChannelPrefix(_) | Kind::MidiPort(_)))?;
+    refusal(Number::PrefixOrPort, *place)
 }
 
 /// The folded piece. It is sorted and not merged: a stable sort by Time leaves events
 /// of equal Times as they lay, which is by track and then in their own order.
 ///
-/// So it has a layout: whatever event comes next, End_track too, the one before it in
+/// It has a layout: whatever event comes next, End_track too, the one before it in
 /// its own track has come already, and the new step is no longer than theirs.
 pub fn folded(piece: Piece) -> Piece {
     let end = piece.tracks.iter().map(Track::end_time).max().unwrap_or(Time::START);
