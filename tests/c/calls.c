@@ -61,6 +61,7 @@ struct operation {
 };
 
 static const struct operation tidy = {"tidy", noferkash_tidy};
+static const struct operation fold = {"fold", noferkash_fold};
 static const struct operation to_text = {"file_to_text", noferkash_file_to_text};
 
 /* The manner in which `to_file` runs. */
@@ -158,6 +159,35 @@ static void tidy_limit_cases(uint8_t *file)
     file[LIMIT - 1] = 1;
     try_written(&tidy, "fault in the last byte", file, LIMIT, LIMIT, NOFERKASH_BAD_META_LENGTH,
                 LIMIT - 4, tidied, 0);
+}
+
+/* A file of so many tracks, each only an End_track; its length. */
+static size_t fill_tracks(uint8_t *file, int format, int tracks)
+{
+    static const char chunk[] = CHUNK("\4", END);
+    size_t at = 14;
+
+    memcpy(file, HEADER, 14);
+    file[9] = (uint8_t)format;
+    file[11] = (uint8_t)tracks;
+    for (; tracks > 0; tracks--, at += sizeof chunk - 1)
+        memcpy(file + at, chunk, sizeof chunk - 1);
+    return at;
+}
+
+static void fold_track_cases(uint8_t *file)
+{
+    const uint8_t *only_end = (const uint8_t *)ONLY_END;
+
+    try_written(&fold, "64 tracks", file, fill_tracks(file, 1, 64), 26, NOFERKASH_OK, 0, only_end,
+                26);
+    try_written(&fold, "64 tracks", file, fill_tracks(file, 1, 64), 25, NOFERKASH_ROOM_TOO_SMALL,
+                0, only_end, 26);
+    try_written(&fold, "65 tracks", file, fill_tracks(file, 1, 65), 26, 31, 10, only_end, 0);
+    try_written(&fold, "65 tracks, no room", file, fill_tracks(file, 1, 65), 0, 31, 10, only_end,
+                0);
+    try_written(&fold, "65 tracks of format 2", file, fill_tracks(file, 2, 65), 26, 32, 8,
+                only_end, 0);
 }
 
 /* The text of a file made by `fill`; its length. */
@@ -266,6 +296,8 @@ int main(void)
     check_cases(file);
     try_cases(&tidy, tidy_cases, sizeof tidy_cases / sizeof tidy_cases[0]);
     tidy_limit_cases(file);
+    try_cases(&fold, fold_cases, sizeof fold_cases / sizeof fold_cases[0]);
+    fold_track_cases(file);
     try_cases(&to_text, text_cases, sizeof text_cases / sizeof text_cases[0]);
     text_limit_cases(file);
     read_cases();

@@ -122,6 +122,56 @@ static const struct written_case tidy_cases[] = {
     {"a fault, and no room", BYTES(FULL "\0"), 0, NOFERKASH_BYTES_AFTER_LAST_TRACK, 40, NOTHING}
 };
 
+#define ONE_OF_FORMAT(format) "MThd\0\0\0\6\0" format "\0\1\0\x60" CHUNK("\4", END)
+/* Two notes at Time 5, of track 1 in their own order, then one of track 2. */
+#define TIES TWO_TRACKS CHUNK("\13", "\5\x90\3\1\0\2\1" END) CHUNK("\10", "\5\x90\1\1" END)
+#define TIES_FOLDED TRACK("\16", "\5\x90\3\1\0\2\1\0\1\1" END)
+#define PORT "\0\xFF\x21\1\5"
+#define PREFIX "\0\xFF\x20\1\5"
+
+/* 31, 32 and 33 are for too many tracks, format 2, and Channel_prefix or MIDI_port. */
+static const struct written_case fold_cases[] = {
+    {"equal Times, one status", BYTES(TIES), 36, NOFERKASH_OK, 0, BYTES(TIES_FOLDED)},
+    {"room larger", BYTES(TIES), 50, NOFERKASH_OK, 0, BYTES(TIES_FOLDED)},
+    {"room one short", BYTES(TIES), 35, NOFERKASH_ROOM_TOO_SMALL, 0, BYTES(TIES_FOLDED)},
+    {"room of one byte", BYTES(TIES), 1, NOFERKASH_ROOM_TOO_SMALL, 0, BYTES(TIES_FOLDED)},
+    {"room of none", BYTES(TIES), 0, NOFERKASH_ROOM_TOO_SMALL, 0, BYTES(TIES_FOLDED)},
+    {"equal Times, statuses of their own",
+     BYTES(TWO_TRACKS CHUNK("\10", "\0\x91\x3C\x40" END) CHUNK("\10", "\0\x90\x3C\x40" END)), 34,
+     NOFERKASH_OK, 0, BYTES(TRACK("\14", "\0\x91\x3C\x40\0\x90\x3C\x40" END))},
+    {"notes in turn",
+     BYTES(TWO_TRACKS CHUNK("\13", "\0\x90\x3C\x40\2\x3C\0" END)
+           CHUNK("\13", "\1\x91\x3C\x40\2\x3C\0" END)), 42, NOFERKASH_OK, 0,
+     BYTES(TRACK("\24", "\0\x90\x3C\x40\1\x91\x3C\x40\1\x90\x3C\0\1\x91\x3C\0" END))},
+    {"a meta event of another track between notes",
+     BYTES(TWO_TRACKS CHUNK("\13", "\0\x90\x3C\x40\2\x3C\0" END) CHUNK("\10", "\1\xFF\1\0" END)),
+     38, NOFERKASH_OK, 0,
+     BYTES(TRACK("\20", "\0\x90\x3C\x40\1\xFF\1\0\1\x90\x3C\0" END))},
+    {"End_track at the greatest Time, which is track 1's",
+     BYTES(TWO_TRACKS CHUNK("\5", "\x83\x60\xFF\x2F\0") CHUNK("\10", "\0\x90\x3C\x40" END)), 31,
+     NOFERKASH_OK, 0, BYTES(TRACK("\11", "\0\x90\x3C\x40\x83\x60\xFF\x2F\0"))},
+    {"format 0 is tidied", BYTES(FULL), 39, NOFERKASH_OK, 0, BYTES(SHORT)},
+    {"format 1 of one track", BYTES(ONE_OF_FORMAT("\1")), 26, NOFERKASH_OK, 0, BYTES(ONLY_END)},
+    {"MIDI_port in one track", BYTES(TRACK("\11", PORT END)), 31, NOFERKASH_OK, 0,
+     BYTES(TRACK("\11", PORT END))},
+
+    {"format 2", BYTES(ONE_OF_FORMAT("\2")), 60, 32, 8, NOTHING},
+    {"format 2, no room", BYTES(ONE_OF_FORMAT("\2")), 0, 32, 8, NOTHING},
+    {"Channel_prefix in track 2",
+     BYTES(TWO_TRACKS CHUNK("\4", END) CHUNK("\11", PREFIX END)), 60, 33, 34, NOTHING},
+    {"MIDI_port in track 1, later than Channel_prefix in track 2",
+     BYTES(TWO_TRACKS CHUNK("\15", "\5\x90\3\1" PORT END) CHUNK("\11", PREFIX END)), 60, 33, 26,
+     NOTHING},
+    {"MIDI_port, and no room", BYTES(TWO_TRACKS CHUNK("\11", PORT END) CHUNK("\4", END)), 0, 33, 22,
+     NOTHING},
+    {"empty file", BYTES(""), 40, NOFERKASH_FILE_CUT_SHORT, 0, NOTHING},
+    {"Tempo 0 after a MIDI_port",
+     BYTES(TWO_TRACKS CHUNK("\11", PORT END) CHUNK("\13", "\0\xFF\x51\3\0\0\0" END)), 60,
+     NOFERKASH_BAD_META_VALUE, 39, NOTHING},
+    {"byte after the last track of format 2", BYTES(ONE_OF_FORMAT("\2") "\0"), 60,
+     NOFERKASH_BYTES_AFTER_LAST_TRACK, 26, NOTHING}
+};
+
 /* In the texts below a quote or a backslash stands as C has it. */
 #define HEADER_LINE "0, 0, Header, 0, 1, 96\n"
 #define START_LINE "1, 0, Start_track\n"

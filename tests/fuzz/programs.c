@@ -6,7 +6,8 @@
     uint64_t program##_check(const uint8_t *, size_t); \
     uint64_t program##_file_to_text(const uint8_t *, size_t, uint8_t *, size_t); \
     uint64_t program##_text_to_file(const uint8_t *, size_t, uint32_t, uint8_t *, size_t); \
-    uint64_t program##_tidy(const uint8_t *, size_t, uint8_t *, size_t);
+    uint64_t program##_tidy(const uint8_t *, size_t, uint8_t *, size_t); \
+    uint64_t program##_fold(const uint8_t *, size_t, uint8_t *, size_t);
 
 DECLARE(second)
 #ifdef INSTRUMENTED
@@ -16,6 +17,7 @@ DECLARE(instrumented)
 /* The arguments of each function, from a struct call. */
 #define ARGUMENTS_check call->input, call->input_length
 #define ARGUMENTS_tidy ARGUMENTS_check, call->room, call->room_length
+#define ARGUMENTS_fold ARGUMENTS_tidy
 #define ARGUMENTS_file_to_text ARGUMENTS_tidy
 #define ARGUMENTS_text_to_file ARGUMENTS_check, call->manner, call->room, call->room_length
 
@@ -45,6 +47,7 @@ RUN(instrumented)
 /* The facts of each function: manner, room, enough, text. */
 #define FACTS_check 0, 0, 0, 0
 #define FACTS_tidy 0, 1, 0, 0
+#define FACTS_fold FACTS_tidy
 #define FACTS_file_to_text 0, 1, 25, 0
 #define FACTS_text_to_file 1, 1, 0, 1
 

@@ -20,6 +20,7 @@ extern "C" {
         out_len: usize,
     ) -> u64;
     fn noferkash_tidy(file: *const u8, file_len: usize, out: *mut u8, out_len: usize) -> u64;
+    fn noferkash_fold(file: *const u8, file_len: usize, out: *mut u8, out_len: usize) -> u64;
 }
 
 /// The packed answer.
@@ -45,4 +46,10 @@ pub fn text_to_file(text: &mut [u8], manner: u32, room: &mut [u8]) -> u64 {
 pub fn tidy(file: &mut [u8], room: &mut [u8]) -> u64 {
     // Safe as above.
     unsafe { noferkash_tidy(file.as_mut_ptr(), file.len(), room.as_mut_ptr(), room.len()) }
+}
+
+/// The packed answer; on success `room` begins with the folded file.
+pub fn fold(file: &mut [u8], room: &mut [u8]) -> u64 {
+    // Safe as above.
+    unsafe { noferkash_fold(file.as_mut_ptr(), file.len(), room.as_mut_ptr(), room.len()) }
 }

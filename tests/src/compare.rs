@@ -103,7 +103,8 @@ impl Operation {
     }
 
     /// Runs both in this manner and room, beside the room needed (0 if nothing is to
-    /// be written); `rng` chooses only where the bytes lie.
+    /// be written); `rng` chooses only where the bytes lie, and what the room and the
+    /// bytes round it hold before the call.
     pub fn compare_in(
         &self,
         rng: &mut Rng,
@@ -112,9 +113,10 @@ impl Operation {
         room: usize,
         needed: usize,
     ) -> Result<Met, Difference> {
-        let mut given = Fenced::new(input, rng.index(8));
+        let mut given = Fenced::new(rng, input);
         let before = given.bytes.clone();
-        let mut due = Fenced::new(&vec![FILL; room], rng.index(8));
+        let lent = rng.noise(room);
+        let mut due = Fenced::new(rng, &lent);
         let mut made = due.clone();
         let second = (self.second)(input, manner, due.inner()).packed();
         let archive = (self.archive)(given.inner(), manner, made.inner());
@@ -149,11 +151,11 @@ impl fmt::Display for Difference {
 /// About as much room as refused input is given, to keep the run short.
 const REFUSED_ROOM: usize = 4096;
 
-/// What room and fences hold before the call.
-const FILL: u8 = 0xA5;
 const FENCE: usize = 16;
+/// The fence before the bytes is up to so many longer, for any alignment.
+const SHIFTS: usize = 8;
 
-/// Bytes with a fence on either side, at any alignment.
+/// Bytes with a fence of random ones on either side, at any alignment.
 #[derive(Clone)]
 struct Fenced {
     bytes: Vec<u8>,
@@ -161,9 +163,9 @@ struct Fenced {
 }
 
 impl Fenced {
-    fn new(inner: &[u8], shift: usize) -> Fenced {
-        let start = FENCE + shift;
-        let bytes = [&vec![FILL; start], inner, &[FILL; FENCE]].concat();
+    fn new(rng: &mut Rng, inner: &[u8]) -> Fenced {
+        let start = FENCE + rng.index(SHIFTS);
+        let bytes = [&rng.noise(start), inner, &rng.noise(FENCE)].concat();
         Fenced { bytes, inner: start..start + inner.len() }
     }
 
@@ -185,10 +187,20 @@ fn rooms_have_their_kind() {
 
 #[test]
 fn a_fence_stands_on_either_side() {
-    for shift in 0..8 {
-        let mut fenced = Fenced::new(b"inner", shift);
+    let rng = &mut Rng::new(0);
+    let (mut shifts, mut fences) = (Vec::new(), Vec::new());
+    for _ in 0..100 {
+        let mut fenced = Fenced::new(rng, b"inner");
         assert_eq!(fenced.inner(), b"inner");
-        assert_eq!(fenced.inner.start, FENCE + shift);
         assert_eq!(fenced.bytes.len() - fenced.inner.end, FENCE);
+        shifts.push(fenced.inner.start - FENCE);
+        fences.push(fenced.bytes[..fenced.inner.start].to_vec());
+        fences.push(fenced.bytes[fenced.inner.end..].to_vec());
     }
+    shifts.sort();
+    shifts.dedup();
+    assert!(shifts.into_iter().eq(0..SHIFTS));
+    fences.sort();
+    fences.dedup();
+    assert_eq!(fences.len(), 200, "a fence was met twice");
 }

@@ -1,13 +1,15 @@
 //! The second program: Standard MIDI Files to MIDICSV text and back, written
 //! from the papers alone so that it can be held against the proved program.
-//! `operations` holds the five operations, `generate` the seeded inputs, and
-//! `compare` holds the one program against the other.
+//! `operations` holds the five operations of document 01, `fold` the first of document
+//! 02, `generate` the seeded inputs, and `compare` holds the one program against the
+//! other.
 
 #[cfg(feature = "archive")]
 pub mod archive;
 pub mod compare;
 pub mod coverage;
 pub mod fast_text;
+pub mod fold;
 pub mod generate;
 pub mod number;
 pub mod operations;

@@ -74,10 +74,11 @@ pub fn midi2csv(input: &[u8]) -> Vec<u8> {
     room
 }
 
-fn deliver_file(piece: &Piece, manner: Manner, room: &mut [u8]) -> Answer {
+/// Hands over the file of a piece that was read or folded: 29, 14 or success.
+pub(crate) fn deliver_file(piece: &Piece, manner: Manner, room: &mut [u8]) -> Answer {
     match write_file(piece, manner) {
         Some(file) if file.len() <= FILE_MAX => deliver(&file, room),
-        // A piece that was read has a layout: only its length can be at fault.
+        // Such a piece has a layout: only its length can be at fault.
         _ => Refusal { number: Number::WrittenTooLong, place: 0 }.into(),
     }
 }

@@ -1,8 +1,10 @@
-//! The outside files of the folder `corpus`, what midicsv and csvmidi make of them,
-//! and the inputs that the fuzzer found worth keeping.
+//! The outside files of the folder `corpus`, what midicsv, csvmidi and mido make of
+//! them, and the inputs that the fuzzer found worth keeping.
 
 use std::fs;
 use std::path::{Path, PathBuf};
+
+use crate::refusal::Answer;
 
 fn corpus() -> PathBuf {
     folder("corpus")
@@ -27,8 +29,9 @@ pub fn outside_files() -> Vec<(String, Vec<u8>)> {
     files
 }
 
-/// What is stored for an outside file: its text (`csv`), and what csvmidi makes
-/// of that in manner 1 (`short.mid`) and manner 0 (`full.mid`).
+/// What is stored for an outside file: its text (`csv`), what csvmidi makes of that in
+/// manner 1 (`short.mid`) and manner 0 (`full.mid`), and its tracks as mido merges them
+/// (`fold.mid`).
 pub fn expected(name: &str, ending: &str) -> Vec<u8> {
     let path = corpus().join("expected").join(format!("{name}.{ending}"));
     fs::read(&path).unwrap_or_else(|error| panic!("{}: {error}", path.display()))
@@ -37,6 +40,18 @@ pub fn expected(name: &str, ending: &str) -> Vec<u8> {
 /// Document 01 refuses these (3 at 12), and csvmidi their text.
 pub fn has_film_division(name: &str) -> bool {
     name.contains("smpte")
+}
+
+/// What an outside file folds to: what mido merges its tracks to, or the refusal due.
+pub fn expected_fold(name: &str) -> Result<Vec<u8>, Answer> {
+    let refused = |number, place| Err(Answer { number, place, length: 0 });
+    match name {
+        _ if has_film_division(name) => refused(3, 12),
+        _ if name.contains("format2") => refused(32, 8),
+        // Where the delta of track 1's Channel_prefix stands in both spellings.
+        _ if name.contains("allkinds") => refused(33, 131),
+        _ => Ok(expected(name, "fold.mid")),
+    }
 }
 
 /// What is stored of fuzzing, `files` or `texts`, in order of names; at least one.

@@ -10,21 +10,30 @@ fn refuse<T>(number: Number, place: usize) -> Result<T, Refusal> {
 }
 
 pub fn read_file(file: &[u8]) -> Result<Piece, Refusal> {
+    read_with_places(file).map(|(piece, _)| piece)
+}
+
+/// Of each track, the place of each event: the first byte of its delta.
+pub type Places = Vec<Vec<usize>>;
+
+pub fn read_with_places(file: &[u8]) -> Result<(Piece, Places), Refusal> {
     if file.len() > FILE_MAX {
         return refuse(Number::FileTooLong, 0);
     }
     let (format, count, division) = read_header(file)?;
-    let mut tracks = Vec::new();
+    let (mut tracks, mut places) = (Vec::new(), Vec::new());
     let mut at = 14;
     for _ in 0..count {
         let end = chunk_end(file, at)?;
-        tracks.push(read_track(&file[..end], at + 8)?);
+        let (track, of_events) = read_track(&file[..end], at + 8)?;
+        tracks.push(track);
+        places.push(of_events);
         at = end;
     }
     if at < file.len() {
         return refuse(Number::AfterLastTrack, at);
     }
-    Ok(Piece { format, division, tracks })
+    Ok((Piece { format, division, tracks }, places))
 }
 
 fn read_header(file: &[u8]) -> Result<(Format, usize, Division), Refusal> {
@@ -65,13 +74,14 @@ fn chunk_end(file: &[u8], at: usize) -> Result<usize, Refusal> {
 }
 
 /// Reads the events from `at` to the end of `file`, which is the track's end.
-fn read_track(file: &[u8], at: usize) -> Result<Track, Refusal> {
+fn read_track(file: &[u8], at: usize) -> Result<(Track, Vec<usize>), Refusal> {
     let mut reader = Reader { file, at, event: at, time: Time::START, in_force: None };
-    let mut events = Vec::new();
+    let (mut events, mut places) = (Vec::new(), Vec::new());
     loop {
         let event = reader.event()?;
         let last = event.kind == Kind::EndTrack;
         events.push(event);
+        places.push(reader.event);
         if last {
             break;
         }
@@ -79,7 +89,7 @@ fn read_track(file: &[u8], at: usize) -> Result<Track, Refusal> {
     if reader.at < file.len() {
         return refuse(Number::AfterEndTrack, reader.at);
     }
-    Ok(Track { events })
+    Ok((Track { events }, places))
 }
 
 /// A place within a track; `file` ends where the track does.

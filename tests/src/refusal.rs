@@ -1,6 +1,6 @@
 //! Refusal numbers and answers.
 
-/// The refusal numbers of document 01.
+/// The refusal numbers of document 01, and those that document 02 adds.
 #[derive(Clone, Copy, Debug, PartialEq, Eq, PartialOrd, Ord)]
 #[repr(u8)]
 pub enum Number {

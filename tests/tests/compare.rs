@@ -34,6 +34,15 @@ fn each_part_of_an_answer_counts() {
     seen("answers", |file, _, room| tidy(file, room).packed() + (1 << 56));
 }
 
+/// Lent bytes that are not written must not be read either.
+#[test]
+fn an_answer_that_hangs_on_the_room_is_seen() {
+    seen("answers", |file, _, room| {
+        let held = room.last().copied().unwrap_or(0);
+        tidy(file, room).packed() + u64::from(held < 128)
+    });
+}
+
 #[test]
 fn a_changed_input_is_seen() {
     seen("input written", |file, _, room| {
@@ -58,6 +67,12 @@ fn what_is_written_counts() {
         answer.packed()
     });
     seen(what, |file, _, room| tidy(file, &mut room.to_vec()).packed());
+    // Rooms hold no one byte before the call that a writer could put there unseen.
+    seen(what, |file, _, room| {
+        let answer = tidy(file, room);
+        room.iter_mut().skip(answer.length).for_each(|byte| *byte = 0xA5);
+        answer.packed()
+    });
     // A refusal seen only after some events were written.
     seen(what, |file, _, room| {
         let answer = tidy(file, room);

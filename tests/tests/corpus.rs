@@ -1,11 +1,11 @@
-//! Files that nobody of this project wrote, against what Debian's midicsv and
-//! csvmidi make of them (stored by make-expectations).
+//! Files that nobody of this project wrote, against what Debian's midicsv, csvmidi and
+//! mido make of them (stored by make-expectations).
 
 mod common;
 
-use common::{tidied, to_file, to_text};
+use common::{folded, tidied, to_file, to_text};
 use second::operations::{check, list_tracks};
-use second::outside::{expected, has_film_division, outside_files as files};
+use second::outside::{expected, expected_fold, has_film_division, outside_files as files};
 use second::read_file::read_file;
 use second::refusal::Answer;
 
@@ -45,6 +45,22 @@ fn files_are_those_of_csvmidi() {
         assert!(to_file(&text, 0).unwrap() == expected(name, "full.mid"), "{name}, manner 0");
         assert!(tidied(file).unwrap() == short, "{name}, tidied");
     }
+}
+
+/// Byte for byte, although mido knows nothing of manners: it too leaves out a status
+/// wherever it may.
+#[test]
+fn folds_are_those_of_mido() {
+    let mut tracks = Vec::new();
+    for (name, file) in files() {
+        let due = expected_fold(&name);
+        assert!(folded(&file) == due, "{name}");
+        if due.is_ok() {
+            tracks.push(read_file(&file).unwrap().tracks.len());
+        }
+    }
+    assert_eq!(tracks.len(), 29);
+    assert!(tracks.iter().filter(|count| **count > 1).count() == 26, "{tracks:?}");
 }
 
 #[test]

@@ -5,10 +5,10 @@ mod common;
 use std::collections::{BTreeMap, BTreeSet};
 use std::ops::RangeInclusive;
 
-use common::to_text;
+use common::{folded, tidied, to_text};
 use second::generate::{
-    aims, benchmark_file, file_case, limit_cases, manner, piece, room, small_benchmark_file,
-    text_case, text_limit_cases, Rng,
+    aims, benchmark_file, file_case, fold_benchmark_file, limit_cases, manner, many_tracks_case,
+    piece, room, small_benchmark_file, small_fold_benchmark_file, text_case, text_limit_cases, Rng,
 };
 use second::number::read_variable;
 use second::operations::{check, file_to_text, text_to_file};
@@ -180,6 +180,31 @@ fn the_benchmark_file_is_as_asked(make: fn() -> Vec<u8>, sizes: RangeInclusive<u
     assert!(to_text(&file).is_ok());
 }
 
+/// Tidy, so many tracks, and folds that are no longer and take their events in turn.
+#[test]
+fn the_benchmark_files_to_be_folded_are_as_asked() {
+    for tracks in FOLDED {
+        let (large, small) = (fold_benchmark_file(tracks), small_fold_benchmark_file(tracks));
+        println!("{tracks} tracks: {} and {} bytes", large.len(), small.len());
+        assert!((1_048_000..=1_048_576).contains(&large.len()), "{tracks} tracks");
+        assert!((65_000..=65_536).contains(&small.len()), "{tracks} tracks");
+        for file in [large, small] {
+            let piece = read_file(&file).unwrap();
+            assert_eq!(piece.tracks.len(), tracks);
+            assert_eq!(tidied(&file), Ok(file.clone()));
+            let made = folded(&file).unwrap();
+            assert!(made.len() <= file.len(), "{tracks} tracks");
+            let fold = read_file(&made).unwrap();
+            assert_eq!(events(&fold).count(), events(&piece).count() + 1 - tracks);
+            let times = events(&fold).filter(|event| event.kind != Kind::EndTrack);
+            assert!(times.map(|event| event.time.0).eq(0..events(&fold).count() as u32 - 1));
+        }
+    }
+}
+
+/// The numbers of tracks that folds are timed with.
+const FOLDED: [usize; 4] = [1, 2, 16, 64];
+
 /// Cases and benchmark stay what they were: measurements and reports name them.
 #[test]
 fn seeds_give_what_they_gave() {
@@ -193,12 +218,22 @@ fn seeds_give_what_they_gave() {
         .flat_map(|(seed, aim)| fnv(&aim.text(&mut Rng::new(seed as u64)).text).to_be_bytes())
         .collect();
     let benchmarks = [fnv(&benchmark_file()), fnv(&small_benchmark_file())];
-    let hashes = [hash(file_case), hash(text_case), benchmarks[0], benchmarks[1], fnv(&aimed)];
+    let to_fold: Vec<u8> =
+        FOLDED.iter().flat_map(|tracks| fnv(&fold_benchmark_file(*tracks)).to_be_bytes()).collect();
+    let hashes = [
+        hash(file_case),
+        hash(text_case),
+        benchmarks[0],
+        benchmarks[1],
+        fnv(&aimed),
+        hash(many_tracks_case),
+        fnv(&to_fold),
+    ];
     println!("{hashes:016x?}");
     assert_eq!(hashes, PINNED, "pin anew if the generator was changed on purpose");
 }
 
-const PINNED: [u64; 5] = [
+const PINNED: [u64; 7] = [
     0xf3c2_ee0c_b167_5a69, 0x255e_fdf4_429a_07b3, 0x80ca_d4ff_450a_95d7, 0x8e2b_f0b6_0c94_7c34,
-    0x0eef_715d_ac33_2038,
+    0x0eef_715d_ac33_2038, 0x6417_ff2e_bdb9_ee9f, 0x8e35_28a6_a807_e1ee,
 ];

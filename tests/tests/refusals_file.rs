@@ -5,7 +5,8 @@ mod common;
 
 use std::collections::BTreeSet;
 
-use common::{chunk, ended, file_of, hex, one_track};
+use common::{chunk, ended, file_of, hex, one_track, UNTOUCHED};
+use second::fold::{fold, fold_rows};
 use second::operations::{check, file_to_text, list_tracks, tidy};
 use second::refusal::Answer;
 
@@ -19,7 +20,12 @@ fn refused((what, file, number, place): &Case) {
     assert_eq!(check(file), answer, "check: {what}");
     assert_eq!(file_to_text(file, &mut room), answer, "to text: {what}");
     assert_eq!(tidy(file, &mut room), answer, "tidy: {what}");
-    // No room at all changes nothing: the fault is met first.
+    assert_eq!(fold(file, &mut room), answer, "fold: {what}");
+    let mut rows = [UNTOUCHED; 2];
+    assert_eq!(fold_rows(file, &mut room, &mut rows), answer, "fold with rows: {what}");
+    assert_eq!(rows, [UNTOUCHED; 2], "rows: {what}");
+    // No room and no rows at all change nothing: the fault is met first.
+    assert_eq!(fold_rows(file, &mut [], &mut []), answer, "fold, no rows: {what}");
     assert_eq!(file_to_text(file, &mut []), answer, "to text, no room: {what}");
     assert_eq!(list_tracks(file, &mut times, &mut counts), answer, "list: {what}");
     assert_eq!(list_tracks(file, &mut [], &mut []), answer, "list, no room: {what}");

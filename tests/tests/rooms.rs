@@ -2,7 +2,8 @@
 
 mod common;
 
-use second::generate::{file_case, manner, room, text_case, Rng};
+use second::fold::fold;
+use second::generate::{file_case, manner, many_tracks_case, room, text_case, Rng};
 use second::operations::{file_to_text, list_tracks, text_to_file, tidy};
 use second::refusal::Answer;
 
@@ -46,6 +47,18 @@ fn rooms_for_texts_and_tidied_files() {
     }
     println!("{fits} of {SEEDS} files written, seeds 0..{SEEDS}");
     assert!(fits > SEEDS / 4);
+}
+
+#[test]
+fn rooms_for_folded_files() {
+    let mut fits = 0;
+    for seed in 0..SEEDS {
+        let file = many_tracks_case(seed);
+        let asked = try_rooms(seed, |room| fold(&file, room));
+        fits += u64::from(asked.number == 14);
+    }
+    println!("{fits} of {SEEDS} files folded, seeds 0..{SEEDS}");
+    assert!(fits > SEEDS / 2);
 }
 
 #[test]

@@ -4,6 +4,7 @@
 
 use std::slice;
 
+use second::fold;
 use second::operations;
 
 /// # Safety
@@ -36,3 +37,4 @@ macro_rules! export {
 export!(second_file_to_text, operations::file_to_text);
 export!(second_text_to_file, operations::text_to_file, manner: u32);
 export!(second_tidy, operations::tidy);
+export!(second_fold, fold::fold);

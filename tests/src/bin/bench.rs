@@ -12,7 +12,10 @@ use std::time::{Duration, Instant};
 
 use second::archive;
 use second::fast_text;
-use second::generate::{benchmark_file, small_benchmark_file};
+use second::fold;
+use second::generate::{
+    benchmark_file, fold_benchmark_file, small_benchmark_file, small_fold_benchmark_file,
+};
 use second::operations;
 use second::refusal::Answer;
 
@@ -28,6 +31,10 @@ fn main() {
     let before = load();
     let (large, small) = (Inputs::of(benchmark_file()), Inputs::of(small_benchmark_file()));
     let mut rows: Vec<Row> = TASKS.iter().map(|task| Row::of(task, &large, &small)).collect();
+    rows.extend(FOLDS.iter().map(|(tracks, task)| {
+        let large = Inputs::of(fold_benchmark_file(*tracks));
+        Row::of(task, &large, &Inputs::of(small_fold_benchmark_file(*tracks)))
+    }));
     // Nothing is timed before all have been seen to make the same.
     for contender in rows.iter_mut().flat_map(Row::contenders) {
         contender.timed();
@@ -56,6 +63,8 @@ fn main() {
 struct Inputs {
     file: Vec<u8>,
     text: Vec<u8>,
+    /// Empty if the file is none to be folded.
+    folded: Vec<u8>,
 }
 
 impl Inputs {
@@ -63,7 +72,10 @@ impl Inputs {
         let mut text = vec![FILL; 25 * file.len()];
         let length = operations::file_to_text(&file, &mut text).length;
         text.truncate(length);
-        Inputs { file, text }
+        let mut folded = vec![FILL; file.len()];
+        let length = fold::fold(&file, &mut folded).length;
+        folded.truncate(length);
+        Inputs { file, text, folded }
     }
 }
 
@@ -105,6 +117,23 @@ const TASKS: [Task; 5] = [
     },
     TIDY,
 ];
+
+/// Each on files of so many tracks.
+const FOLDS: [(usize, Task); 4] = [
+    (1, Task { name: "fold, 1 track", ..FOLD }),
+    (2, Task { name: "fold, 2 tracks", ..FOLD }),
+    (16, Task { name: "fold, 16 tracks", ..FOLD }),
+    (64, Task { name: "fold, 64 tracks", ..FOLD }),
+];
+
+const FOLD: Task = Task {
+    name: "fold",
+    due: |inputs| &inputs.folded,
+    room: |inputs| inputs.folded.len(),
+    ours: |file, room| archive::fold(file, room),
+    second: |file, room| fold::fold(file, room).packed(),
+    ..TIDY
+};
 
 const TO_TEXT: Task = Task {
     name: "file to text",
@@ -296,7 +325,8 @@ fn print_notes(large: &Inputs, small: &Inputs) {
         "\n\
          Milliseconds, medians of {ROUNDS} by the wall clock. Ratio: ours by the other's. midicsv\n\
          (csvmidi in the row of text to file) is a whole process. Growth: ours by ours on a file\n\
-         of {} bytes, {:.2} times smaller, or on its text of {} bytes, {:.2} times smaller.",
+         of {} bytes, {:.2} times smaller, or on its text of {} bytes, {:.2} times smaller; of a\n\
+         fold, on a file of as many tracks, 16 times smaller.",
         small.file.len(),
         times(|inputs| &inputs.file),
         small.text.len(),

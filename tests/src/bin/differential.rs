@@ -1,8 +1,8 @@
 //! differential [CASES [FIRST_SEED]]: the proved archive against the second
 //! program. Exit 0 when all answers are the same, every number, room, manner and aim
 //! due was met and no other number, the generated files and texts held all that is
-//! due, outside files and texts are converted as they must be, and what is converted
-//! forth and back is as it was. With fewer cases than `CASES` what was never met is
+//! due, outside files and texts are converted and folded as they must be, and what is
+//! converted forth and back is as it was. With fewer cases than `CASES` what was never met is
 //! said, but is no fault.
 
 use std::env;
@@ -10,12 +10,13 @@ use std::process::ExitCode;
 
 use second::archive;
 use second::compare::Operation;
+use second::fold;
 use second::generate::{
-    aims, benchmark_file, file_case, good_file, limit_cases, mutated_copy, mutated_text, piece,
-    plain_text, text_case, text_limit_cases, Rng,
+    aims, benchmark_file, file_case, fold_limit_cases, good_file, limit_cases, many_tracks_case,
+    mutated_copy, mutated_text, piece, plain_text, text_case, text_limit_cases, Rng,
 };
 use second::operations;
-use second::outside::{expected, has_film_division, kept, outside_files};
+use second::outside::{expected, expected_fold, has_film_division, kept, outside_files};
 use second::read_file::read_file;
 use second::read_text::read_text;
 use second::refusal::Answer;
@@ -37,6 +38,12 @@ const TIDY: Operation = Operation::new(
     "tidy",
     |file, _, room| operations::tidy(file, room),
     |file, _, room| archive::tidy(file, room),
+);
+
+const FOLD: Operation = Operation::new(
+    "fold",
+    |file, _, room| fold::fold(file, room),
+    |file, _, room| archive::fold(file, room),
 );
 
 const TEXT: Operation = Operation {
@@ -68,12 +75,15 @@ fn main() -> ExitCode {
         on_files(Run::of(&TIDY).of_few(few), &written, cases / 2, first),
         on_files(Run::holding(&TEXT, read_file).of_few(few), &written, cases / 4, first),
         on_texts(Run::holding(&FILE, read_text).of_few(few), cases / 4, first),
+        on_tracks(Run::of(&FOLD).of_few(few), cases / 4, first),
         outside_tidied(),
         tidied_twice(cases / 10, first),
         outside_texts(),
         outside_back(),
         files_forth_and_back(cases / 10, first),
         texts_forth_and_back(cases / 10, first),
+        outside_folded(),
+        folded_twice(cases / 10, first),
     ];
     if good.contains(&false) {
         return ExitCode::FAILURE;
@@ -98,6 +108,11 @@ fn numbers_given() -> Option<(u64, u64)> {
 
 /// Compares an operation that takes a file; `due` are the numbers to be met.
 fn on_files(mut run: Run, due: &[u8], cases: u64, first: u64) -> bool {
+    file_sources(&mut run, cases, first);
+    run.report(due)
+}
+
+fn file_sources(run: &mut Run, cases: u64, first: u64) {
     let outside: Vec<Vec<u8>> = outside_files().into_iter().map(|(_, file)| file).collect();
     let limits: Vec<Vec<u8>> = limit_cases().into_iter().map(|case| case.file).collect();
     let long = benchmark_file();
@@ -110,8 +125,17 @@ fn on_files(mut run: Run, due: &[u8], cases: u64, first: u64) -> bool {
         mutated_copy(&mut Rng::new(seed), &outside[(seed % count) as usize])
     });
     run.source("long", first..first + cases / 400, |seed| mutated_copy(&mut Rng::new(seed), &long));
-    on_kept(&mut run, "files");
-    run.report(due)
+    on_kept(run, "files");
+}
+
+/// Compares fold: on files made for it, and on the same as the others.
+fn on_tracks(mut run: Run, cases: u64, first: u64) -> bool {
+    run.source("many tracks", first..first + cases, many_tracks_case);
+    run.file_limits("fold limits", &fold_limit_cases());
+    file_sources(&mut run, cases / 2, first);
+    // Not 27: no folded step is longer than one of the file. Not 37: it has rows enough.
+    let due: Vec<u8> = (0..=14).chain([29, 31, 32, 33]).collect();
+    run.report(&due)
 }
 
 /// Compares text_to_file.
@@ -265,6 +289,41 @@ fn texts_forth_and_back(cases: u64, first: u64) -> bool {
     }
     println!("text_to_file: {cases} texts to file and back in 2 manners, {faults} faults");
     faults == 0 && cases > 0
+}
+
+/// Outside files fold to what mido merges their tracks to, and those that are not to be
+/// folded have the refusal due.
+fn outside_folded() -> bool {
+    let (mut files, mut refused, mut faults) = (0, 0, 0);
+    for (name, file) in outside_files() {
+        let due = expected_fold(&name);
+        *if due.is_ok() { &mut files } else { &mut refused } += 1;
+        if made(archive::fold, &file) != due {
+            faults += 1;
+            println!("FAULT: outside file {name} is folded wrongly");
+        }
+    }
+    println!("fold: {files} outside files, {refused} refused, {faults} faults");
+    faults == 0 && files > 0
+}
+
+/// Of the archive alone: what it folds it folds and tidies to itself, and how the file
+/// was spelled does not count.
+fn folded_twice(cases: u64, first: u64) -> bool {
+    let (mut count, mut faults) = (0, 0);
+    for seed in first..first + cases {
+        let file = many_tracks_case(seed);
+        let Ok(once) = made(archive::fold, &file) else { continue };
+        count += 1;
+        let tidy_first = tidied(&file).and_then(|file| made(archive::fold, &file));
+        let again = [made(archive::fold, &once), tidied(&once), tidy_first];
+        if again.iter().any(|made| made.as_ref() != Ok(&once)) {
+            faults += 1;
+            println!("FAULT: seed {seed} does not fold to what it folds to again");
+        }
+    }
+    println!("fold: {count} generated files folded twice, {faults} faults");
+    faults == 0 && count > 0
 }
 
 /// The file that the archive makes of a text.

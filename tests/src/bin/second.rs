@@ -1,13 +1,14 @@
-//! second check|to-text|to-midi|tidy|list [-x] [IN [OUT]]
+//! second check|to-text|to-midi|tidy|fold|list [-x] [IN [OUT]]
 
 use std::fs::File;
 use std::io::{self, Read, Write};
 use std::process::ExitCode;
 
+use second::fold::fold;
 use second::operations::{check, file_to_text, list_tracks, text_to_file, tidy};
 use second::refusal::Answer;
 
-const USAGE: &str = "usage: second check|to-text|to-midi|tidy|list [-x] [IN [OUT]]
+const USAGE: &str = "usage: second check|to-text|to-midi|tidy|fold|list [-x] [IN [OUT]]
   -x  to-midi: write every status byte (manner 0)
   -   or nothing: the standard stream";
 
@@ -18,7 +19,7 @@ fn main() -> ExitCode {
         words.remove(index);
     }
     let verb = words.first().map_or("", String::as_str);
-    let known = ["check", "to-text", "to-midi", "tidy", "list"].contains(&verb);
+    let known = ["check", "to-text", "to-midi", "tidy", "fold", "list"].contains(&verb);
     if !known || words.len() > 3 || words.iter().any(|word| word.len() > 1 && word.starts_with('-'))
     {
         eprintln!("{USAGE}");
@@ -51,6 +52,7 @@ fn run(verb: &str, manner: u32, input: &str, output: &str) -> io::Result<Option<
         "to-text" => with_room(|room| file_to_text(&bytes, room)),
         "to-midi" => with_room(|room| text_to_file(&bytes, manner, room)),
         "tidy" => with_room(|room| tidy(&bytes, room)),
+        "fold" => with_room(|room| fold(&bytes, room)),
         _ => list(&bytes),
     };
     match made {

@@ -44,7 +44,7 @@ const SHAPES: [Shape; 9] = [
 const FIRST_NOTE: &[u8] = &[0, 0x90, 60, 64];
 /// Its status is left out.
 const NOTE: &[u8] = &[0, 60, 64];
-const END_TRACK: &[u8] = &[0, 0xFF, 0x2F, 0];
+pub(super) const END_TRACK: &[u8] = &[0, 0xFF, 0x2F, 0];
 const MIDDLE: usize = 174_000;
 
 /// Where a note begins; the one after the first is number 0.
@@ -52,7 +52,7 @@ const fn note_at(number: usize) -> usize {
     22 + FIRST_NOTE.len() + number * NOTE.len()
 }
 
-fn chunk(body: &[u8]) -> Vec<u8> {
+pub(super) fn chunk(body: &[u8]) -> Vec<u8> {
     [b"MTrk", &(body.len() as u32).to_be_bytes()[..], body].concat()
 }
 

@@ -3,6 +3,7 @@
 use crate::piece::{Division, Event, Format, Kind, Piece, TextKind, Time, Track};
 use crate::spelling::{shortest, Manner};
 use crate::write_file::{write_event, write_file};
+use crate::FILE_MAX;
 
 use super::pieces::{kind_of, KINDS};
 use super::Rng;
@@ -13,6 +14,8 @@ const LEAST: usize = 1_048_000;
 const TIMES_SMALL: usize = 16;
 const TRACKS: usize = 16;
 const TEXT_MOST: usize = 60;
+/// The number of Note_on_c among the kinds.
+const NOTE_ON: u64 = 1;
 
 /// Always the same file of 1,048,000 to 1,048,576 bytes, in manner 1, with
 /// every kind of event and all seven texts, no event over 100 bytes.
@@ -23,6 +26,38 @@ pub fn benchmark_file() -> Vec<u8> {
 /// One like it, a sixteenth as large, to see how times grow.
 pub fn small_benchmark_file() -> Vec<u8> {
     file_of(LEAST / TIMES_SMALL)
+}
+
+/// Always the same file of 1,048,000 to 1,048,576 bytes in manner 1, to be folded: so
+/// many tracks of notes, each note a tick after that of the track before it. All have
+/// one status, so that the fold leaves it out too and is no longer than the file.
+pub fn fold_benchmark_file(tracks: usize) -> Vec<u8> {
+    notes_in_turn(tracks, FILE_MAX)
+}
+
+/// One like it, a sixteenth as large.
+pub fn small_fold_benchmark_file(tracks: usize) -> Vec<u8> {
+    notes_in_turn(tracks, FILE_MAX / TIMES_SMALL)
+}
+
+/// Up to 64 tracks with as many notes as there is room for, in each the same number.
+fn notes_in_turn(tracks: usize, most: usize) -> Vec<u8> {
+    let rng = &mut Rng::new(SEED);
+    // Of a track 8 bytes before its events, a status, End_track's 4; a note takes 3.
+    let notes = ((most - 14) / tracks - 13) / 3;
+    let event = |track: usize, index: usize, kind| Event {
+        time: Time((index * tracks + track) as u32),
+        kind,
+    };
+    let mut track = |track: usize| {
+        let mut events: Vec<Event> =
+            (0..notes).map(|index| event(track, index, kind_of(rng, NOTE_ON, 0))).collect();
+        events.push(event(track, notes - 1, Kind::EndTrack));
+        Track { events }
+    };
+    let tracks = (0..tracks).map(&mut track).collect();
+    let piece = Piece { format: Format::Together, division: Division::Pulses(480), tracks };
+    write_file(&piece, Manner::Short).expect("short steps")
 }
 
 fn file_of(least: usize) -> Vec<u8> {

@@ -7,10 +7,12 @@
 //! - `room(rng, needed)`: a size of lent room, now and then too small (14).
 //! - `piece(rng)`, `spelling(rng, piece)`: good pieces and permitted spellings.
 //! - `varied_text(rng, piece)`: a text of the piece, spelled loosely.
+//! - `many_tracks_case(seed)`: a file of many tracks and few Times, for the fold; many
+//!   seeds together meet 0, 14, 31, 32 and 33.
 //! - `benchmark_file()`, `small_benchmark_file()`: one file of nearly 1 MiB, one of
-//!   nearly 64 KiB.
-//! - `limit_cases()`, `text_limit_cases()`: files and texts at the limits of size and
-//!   past them, by hand.
+//!   nearly 64 KiB; `fold_benchmark_file(tracks)` and its small one likewise.
+//! - `limit_cases()`, `text_limit_cases()`, `fold_limit_cases()`: files, texts and files
+//!   to be folded, at the limits of size and past them, by hand.
 //! - `mutated_copy(rng, file)`, `mutated_text(rng, text)`: with some bytes changed.
 
 mod aims;
@@ -19,7 +21,9 @@ mod benchmark;
 mod damaged_file;
 mod damaged_text;
 mod field_damage;
+mod fold_limits;
 mod large;
+mod many_tracks;
 mod pieces;
 mod raw_file;
 mod rng;
@@ -28,9 +32,13 @@ mod text_lines;
 
 pub use aims::{aims, Aim, Aimed};
 pub use at_limit::{limit_cases, LimitCase};
-pub use benchmark::{benchmark_file, small_benchmark_file};
+pub use benchmark::{
+    benchmark_file, fold_benchmark_file, small_benchmark_file, small_fold_benchmark_file,
+};
 pub use damaged_file::mutated_copy;
 pub use damaged_text::mutated_text;
+pub use fold_limits::fold_limit_cases;
+pub use many_tracks::{many_tracks_case, many_tracks_piece};
 pub use pieces::{kind_of, piece, spelling, KINDS};
 pub use rng::Rng;
 pub use text_limits::{text_limit_cases, LimitText};

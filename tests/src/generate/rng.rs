@@ -58,6 +58,16 @@ impl Rng {
         self.word() as u8
     }
 
+    /// Random bytes, eight from a word: for much that is only to be filled.
+    pub fn noise(&mut self, count: usize) -> Vec<u8> {
+        let mut bytes = Vec::with_capacity(count + 8);
+        while bytes.len() < count {
+            bytes.extend_from_slice(&self.word().to_le_bytes());
+        }
+        bytes.truncate(count);
+        bytes
+    }
+
     pub fn bytes(&mut self, count: usize) -> Vec<u8> {
         (0..count).map(|_| self.byte()).collect()
     }

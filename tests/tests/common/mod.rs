@@ -2,7 +2,9 @@
 //! operations with as much room as they need.
 #![allow(dead_code)]
 
+use second::fold::{fold, Row};
 use second::operations::{file_to_text, text_to_file, tidy};
+use second::piece::Time;
 use second::refusal::Answer;
 
 /// Bytes from hexadecimal digits; blanks are passed over.
@@ -61,6 +63,13 @@ pub fn to_file(text: &[u8], manner: u32) -> Result<Vec<u8>, Answer> {
 pub fn tidied(file: &[u8]) -> Result<Vec<u8>, Answer> {
     with_room(|room| tidy(file, room))
 }
+
+pub fn folded(file: &[u8]) -> Result<Vec<u8>, Answer> {
+    with_room(|room| fold(file, room))
+}
+
+/// A row as no fold leaves it.
+pub const UNTOUCHED: Row = Row { place: 77, time: Time(78), status: 79 };
 
 /// A text as a string, to be read when a test fails.
 pub fn shown(text: Result<Vec<u8>, Answer>) -> String {

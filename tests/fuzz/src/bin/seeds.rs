@@ -8,7 +8,7 @@ use std::io;
 use std::path::{Path, PathBuf};
 use std::process::ExitCode;
 
-use second::generate::{aims, file_case, text_case, Rng};
+use second::generate::{aims, file_case, many_tracks_case, text_case, Rng};
 use second::outside::{expected, outside_files};
 
 /// As long as the fuzzer's own inputs become (-max_len).
@@ -37,7 +37,8 @@ fn main() -> ExitCode {
 fn write_all(folder: &Path) -> io::Result<(usize, usize)> {
     let outside = outside_files();
     let generated = (0..GENERATED).map(|seed| (format!("generated-{seed}"), file_case(seed)));
-    let files = outside.iter().cloned().chain(generated);
+    let tracks = (0..GENERATED).map(|seed| (format!("tracks-{seed}"), many_tracks_case(seed)));
+    let files = outside.iter().cloned().chain(generated).chain(tracks);
     let files = write(&folder.join("files"), files)?;
 
     let stored = outside.iter().map(|(name, _)| (name.clone(), expected(name, "csv")));
