@@ -3,6 +3,7 @@ use mathlib.Core.Path.{refl, sym, _∙_}
 use Prim.Native.Nat.{ℕ, _≤_}
 use mathlib.Core.List.{List}
 use lib.ListN.{length}
+use Rattle.event.specs.Choice.{pick}
 use Rattle.event.specs.Event.{Event}
 use Rattle.smf.specs.Piece.{Piece, LawfulPiece}
 use Rattle.smf.specs.Spelling.{PermittedPiece}
@@ -51,7 +52,7 @@ file-folded f p laid h =
     }
 
 rows-folded : (rows : ℕ) (f : List ℕ) (g : Placed → ℕ) (old : List ℕ) → RowsFolded rows f g old
-unfolding rowsLeave
+unfolding rowsLeave pick
 rows-folded rows f g old = record { folded = λ p r e. rw e refl; refused = λ n q e. rw e refl }
 
 pub all-claims : FoldClaims

@@ -41,7 +41,7 @@ loop-less c = omega arith
 loop-again : tie.Need-loop-again Inv-loop μ-loop
 unfolding greatest
 loop-again c = let l = c .before .before .before .loop in let a = c .before .before .before .before .before .args in
-    (omega (arith, c .before .before .loop-test .taken), c .later-of .ensures ∙ ap (λ z. max z (getD (a .times .now) (l .i) 0)) (l .inv .1) ∙ sym (greatest-more (a .times .now) (l .i) (omega (arith, c .before .before .before .before .before .pre, c .before .before .loop-test .taken))))
+    (omega (arith, c .before .before .loop-test .taken), omega (arith, c .later-of .ensures, l .inv .1, greatest-more (a .times .now) (l .i) (omega (arith, c .before .before .before .before .before .pre, c .before .before .loop-test .taken))))
 
 returns : tie.Need-returns Inv-loop μ-loop
 unfolding greatest
