@@ -12,6 +12,18 @@ mod merge; // merge.rt: the events of all tracks as those of one
 mod write; // write.rt: the folded file
 mod look; // look.rt: Channel_prefix and MIDI_port
 
+// The header's tag MThd, a track's tag MTrk, the longest file, and "Up to 64 tracks".
+const HEADER_TAG: u32 = 0x4D546864;
+
+const TRACK_TAG: u32 = 0x4D54726B;
+
+const FILE_LIMIT: usize = 1048576;
+
+const MOST_TRACKS: u32 = 64;
+
+// No status byte: in a row it says that the track has come to its End_track.
+const ENDED: u8 = 1;
+
 // The row of a track: where its next event stands, that event's Time, and the status in force before it; 1, which is no
 // status byte, says that it is End_track.
 struct Row {
@@ -48,7 +60,7 @@ pub fn fold(
             if 1 < format {
                 return Answer::refusal(32, 8);
             }
-            if 64 < count {
+            if MOST_TRACKS < count {
                 return Answer::refusal(31, 10);
             }
             let tracks = count as usize;

@@ -10,6 +10,7 @@ ghost use Rattle.smf.specs.Code.Chain.{placedFrom};
 ghost use Rattle.fold_piece.specs.FoldAnswer.{rowsLent};
 ghost use Rattle.fold.specs.Code.Row.{rowOf, TracksRead, RowsFor};
 ghost use Rattle.fold.specs.Code.Stand.{Rows};
+use super::ENDED;
 use super::Row;
 use event::EventStep;
 use event::Time;
@@ -42,7 +43,7 @@ pub fn row_at(file: &[u8], at: usize, time: Time, status: u8) -> Row
             Row {
                 place: at,
                 time: t,
-                status: 1,
+                status: ENDED,
             }
         }
         EventStep::Read {
@@ -56,7 +57,7 @@ pub fn row_at(file: &[u8], at: usize, time: Time, status: u8) -> Row
                 return Row {
                     place: at,
                     time: t,
-                    status: 1,
+                    status: ENDED,
                 };
             }
             Row {

@@ -5,6 +5,7 @@ ghost use Prim.Native.Nat.{_≤_, _<_, max};
 ghost use lib.ListN.{length, take};
 ghost use Rattle.fold_piece.specs.Fold.{greatest};
 ghost use Rattle.fold.specs.Code.Search.{nearer, leastOf, leastAfter};
+use super::ENDED;
 
 // The better of two rows: best, unless row i has an event left, and an earlier one; n stands for none.
 // The Time is looked at before the status, since most rows fail by it.
@@ -13,7 +14,7 @@ fn lesser(times: &[u32], statuses: &[u8], n: usize, best: usize, i: usize) -> us
     ensures { λ r. ⌜ r ≡ nearer n (now (times .entry)) (now (statuses .entry)) best i ⌝ }
 {
     if best == n {
-        if statuses[i] == 1 {
+        if statuses[i] == ENDED {
             return best;
         }
         return i;
@@ -21,7 +22,7 @@ fn lesser(times: &[u32], statuses: &[u8], n: usize, best: usize, i: usize) -> us
     if times[best] <= times[i] {
         return best;
     }
-    if statuses[i] == 1 {
+    if statuses[i] == ENDED {
         return best;
     }
     i
@@ -50,7 +51,7 @@ pub fn least_after(times: &[u32], statuses: &[u8], n: usize, i: usize, time: u32
     if times[i] != time {
         return least(times, statuses, n);
     }
-    if statuses[i] == 1 {
+    if statuses[i] == ENDED {
         return least(times, statuses, n);
     }
     i

@@ -8,6 +8,9 @@ ghost use Rattle.smf.specs.Writing.{writeAnswer, writeLeaves};
 ghost use Rattle.smf_write.specs.Tidy.{trackIn};
 ghost use Rattle.fold_piece.specs.FoldAnswer.{placeShown, timeShown, statusShown};
 ghost use Rattle.fold.specs.Code.Row.{TracksRead, trackOf, fileIn, RowsFor, showing};
+use super::FILE_LIMIT;
+use super::HEADER_TAG;
+use super::TRACK_TAG;
 use super::merge::merge;
 use event_write::bytes::put_four;
 use event_write::bytes::put_two;
@@ -28,7 +31,7 @@ fn put_track(
     requires { ⌜ at < 2 ^ 39 ⌝ ∗ ⌜ length (now file) ≤ 1048576 ⌝ ∗ ⌜ TracksRead (now file) count first ⌝ ∗ ⌜ RowsFor count (now places) (now times) (now statuses) ⌝ }
     ensures { λ r. ⌜ Written (now (out .entry)) at (trackIn short (trackOf (now (file .entry)) count first)) (now (out .exit)) r ⌝ ∗ ⌜ now (places .exit) ≡ showing placeShown (now (file .entry)) count first (now (places .entry)) ⌝ ∗ ⌜ now (times .exit) ≡ showing timeShown (now (file .entry)) count first (now (times .entry)) ⌝ ∗ ⌜ now (statuses .exit) ≡ showing statusShown (now (file .entry)) count first (now (statuses .entry)) ⌝ }
 {
-    let p = put_four(out, at, 0x4D54726B);
+    let p = put_four(out, at, TRACK_TAG);
     let q = put_four(out, p, 0);
     let end = merge(out, places, times, statuses, q, file, count, first);
     let size = (end - q) as u32;
@@ -50,7 +53,7 @@ fn put_file(
     requires { ⌜ length (now file) ≤ 1048576 ⌝ ∗ ⌜ TracksRead (now file) count first ⌝ ∗ ⌜ RowsFor count (now places) (now times) (now statuses) ⌝ }
     ensures { λ r. ⌜ Written (now (out .entry)) 0 (fileIn pulses (trackOf (now (file .entry)) count first)) (now (out .exit)) r ⌝ ∗ ⌜ now (places .exit) ≡ showing placeShown (now (file .entry)) count first (now (places .entry)) ⌝ ∗ ⌜ now (times .exit) ≡ showing timeShown (now (file .entry)) count first (now (times .entry)) ⌝ ∗ ⌜ now (statuses .exit) ≡ showing statusShown (now (file .entry)) count first (now (statuses .entry)) ⌝ }
 {
-    let a = put_four(out, 0, 0x4D546864);
+    let a = put_four(out, 0, HEADER_TAG);
     let b = put_four(out, a, 6);
     let c = put_two(out, b, 0);
     let d = put_two(out, c, 1);
@@ -82,7 +85,7 @@ pub fn put_measured(
         first,
         pulses,
     );
-    if 1048576 < need {
+    if FILE_LIMIT < need {
         return Answer::refusal(29, 0);
     }
     if out.len() < need {

@@ -7,3 +7,4 @@ pub mod StepLaws
 pub mod FreeLaws
 pub mod AnswerLaws
 pub mod FoldClaims
+pub mod Example
