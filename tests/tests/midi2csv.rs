@@ -3,16 +3,8 @@
 
 mod common;
 
-use std::fs;
-use std::path::Path;
-
-use common::{hex, to_text};
+use common::{hex, stored, to_text};
 use second::operations::midi2csv;
-
-fn stored(path: &str) -> Vec<u8> {
-    let path = Path::new(env!("CARGO_MANIFEST_DIR")).join("../crates").join(path);
-    fs::read(&path).unwrap_or_else(|error| panic!("{}: {error}", path.display()))
-}
 
 #[test]
 fn the_example_of_document_01() {

@@ -1,6 +1,9 @@
-//! What the tests share: bytes from hexadecimal, files round a track, and the
-//! operations with as much room as they need.
+//! What the tests share: bytes from hexadecimal, files round a track, what is stored
+//! for the programs of ../crates, and the operations with as much room as they need.
 #![allow(dead_code)]
+
+use std::fs;
+use std::path::Path;
 
 use second::fold::{fold, Row};
 use second::operations::{file_to_text, text_to_file, tidy};
@@ -13,6 +16,12 @@ pub fn hex(digits: &str) -> Vec<u8> {
         digits.split_whitespace().flat_map(str::chars).map(|c| c.to_digit(16).unwrap()).collect();
     assert_eq!(digits.len() % 2, 0, "whole bytes");
     digits.chunks(2).map(|pair| (16 * pair[0] + pair[1]) as u8).collect()
+}
+
+/// A file of ../crates: what a program there is run on, or what it must write.
+pub fn stored(path: &str) -> Vec<u8> {
+    let path = Path::new(env!("CARGO_MANIFEST_DIR")).join("../crates").join(path);
+    fs::read(&path).unwrap_or_else(|error| panic!("{}: {error}", path.display()))
 }
 
 /// A track chunk round a body.
