@@ -183,11 +183,12 @@ static void fold_track_cases(uint8_t *file)
                 26);
     try_written(&fold, "64 tracks", file, fill_tracks(file, 1, 64), 25, NOFERKASH_ROOM_TOO_SMALL,
                 0, only_end, 26);
-    try_written(&fold, "65 tracks", file, fill_tracks(file, 1, 65), 26, 31, 10, only_end, 0);
-    try_written(&fold, "65 tracks, no room", file, fill_tracks(file, 1, 65), 0, 31, 10, only_end,
-                0);
-    try_written(&fold, "65 tracks of format 2", file, fill_tracks(file, 2, 65), 26, 32, 8,
-                only_end, 0);
+    try_written(&fold, "65 tracks", file, fill_tracks(file, 1, 65), 26,
+                NOFERKASH_TOO_MANY_TRACKS, 10, only_end, 0);
+    try_written(&fold, "65 tracks, no room", file, fill_tracks(file, 1, 65), 0,
+                NOFERKASH_TOO_MANY_TRACKS, 10, only_end, 0);
+    try_written(&fold, "65 tracks of format 2", file, fill_tracks(file, 2, 65), 26,
+                NOFERKASH_FORMAT_2, 8, only_end, 0);
 }
 
 /* The text of a file made by `fill`; its length. */

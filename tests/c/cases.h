@@ -129,7 +129,6 @@ static const struct written_case tidy_cases[] = {
 #define PORT "\0\xFF\x21\1\5"
 #define PREFIX "\0\xFF\x20\1\5"
 
-/* 31, 32 and 33 are for too many tracks, format 2, and Channel_prefix or MIDI_port. */
 static const struct written_case fold_cases[] = {
     {"equal Times, one status", BYTES(TIES), 36, NOFERKASH_OK, 0, BYTES(TIES_FOLDED)},
     {"room larger", BYTES(TIES), 50, NOFERKASH_OK, 0, BYTES(TIES_FOLDED)},
@@ -155,15 +154,16 @@ static const struct written_case fold_cases[] = {
     {"MIDI_port in one track", BYTES(TRACK("\11", PORT END)), 31, NOFERKASH_OK, 0,
      BYTES(TRACK("\11", PORT END))},
 
-    {"format 2", BYTES(ONE_OF_FORMAT("\2")), 60, 32, 8, NOTHING},
-    {"format 2, no room", BYTES(ONE_OF_FORMAT("\2")), 0, 32, 8, NOTHING},
+    {"format 2", BYTES(ONE_OF_FORMAT("\2")), 60, NOFERKASH_FORMAT_2, 8, NOTHING},
+    {"format 2, no room", BYTES(ONE_OF_FORMAT("\2")), 0, NOFERKASH_FORMAT_2, 8, NOTHING},
     {"Channel_prefix in track 2",
-     BYTES(TWO_TRACKS CHUNK("\4", END) CHUNK("\11", PREFIX END)), 60, 33, 34, NOTHING},
+     BYTES(TWO_TRACKS CHUNK("\4", END) CHUNK("\11", PREFIX END)), 60,
+     NOFERKASH_PREFIX_OR_PORT, 34, NOTHING},
     {"MIDI_port in track 1, later than Channel_prefix in track 2",
-     BYTES(TWO_TRACKS CHUNK("\15", "\5\x90\3\1" PORT END) CHUNK("\11", PREFIX END)), 60, 33, 26,
-     NOTHING},
-    {"MIDI_port, and no room", BYTES(TWO_TRACKS CHUNK("\11", PORT END) CHUNK("\4", END)), 0, 33, 22,
-     NOTHING},
+     BYTES(TWO_TRACKS CHUNK("\15", "\5\x90\3\1" PORT END) CHUNK("\11", PREFIX END)), 60,
+     NOFERKASH_PREFIX_OR_PORT, 26, NOTHING},
+    {"MIDI_port, and no room", BYTES(TWO_TRACKS CHUNK("\11", PORT END) CHUNK("\4", END)), 0,
+     NOFERKASH_PREFIX_OR_PORT, 22, NOTHING},
     {"empty file", BYTES(""), 40, NOFERKASH_FILE_CUT_SHORT, 0, NOTHING},
     {"Tempo 0 after a MIDI_port",
      BYTES(TWO_TRACKS CHUNK("\11", PORT END) CHUNK("\13", "\0\xFF\x51\3\0\0\0" END)), 60,
