@@ -57,7 +57,7 @@ static void place_words(uint64_t answer, char place[PLACE_ROOM]) {
     int number = NOFERKASH_NUMBER(answer);
     int of_file =
         number >= NOFERKASH_FILE_CUT_SHORT && number <= NOFERKASH_BYTES_AFTER_LAST_TRACK;
-    int of_folding = number >= NOFERKASH_TOO_MANY_TRACKS && number <= NOFERKASH_TOO_FEW_ROWS;
+    int of_folding = number >= NOFERKASH_TOO_MANY_TRACKS && number <= NOFERKASH_PREFIX_OR_PORT;
     int of_text = number >= NOFERKASH_BAD_FIELD && number <= NOFERKASH_TEXT_CUT_SHORT;
     place[0] = '\0';
     if (of_file || of_folding || of_text) {

@@ -1,5 +1,5 @@
 -- How an accepted sequence of readers is put together, and taken apart.
-use mathlib.Core.Path.{_≡_, refl, ap}
+use mathlib.Core.Path.{_≡_, refl, ap, ap₂}
 use Prim.Native.Nat.{ℕ}
 use mathlib.Core.Bool.{Bool, true, false}
 use mathlib.Core.List.{List, [], _∷_}
@@ -22,6 +22,13 @@ module _ {A B : Type 0} where
   andThen-ok (ok a l) f b r e k = k a l refl e
   andThen-ok (refused n p) f b r e k = not-ok e
 
+  -- a refused sequence: its first part was, or the second
+  pub andThen-refused {ℓ} : {X : Type ℓ} (m : Outcome A) (f : A → List ℕ → Outcome B) (k q : ℕ) → andThen m f ≡ refused k q
+      → (m ≡ refused k q → X) → ((a : A) (l : List ℕ) → m ≡ ok a l → f a l ≡ refused k q → X) → X
+  unfolding andThen
+  andThen-refused (ok a l) f k q e g h = h a l refl e
+  andThen-refused (refused n p) f k q e g h = let a : n ≡ k = cc in let b : p ≡ q = cc in g (ap₂ refused a b)
+
   pub andThen-eq : {m : Outcome A} (f : A → List ℕ → Outcome B) {a : A} {l : List ℕ} → m ≡ ok a l → andThen m f ≡ f a l
   unfolding andThen
   andThen-eq f e = ap (λ x. andThen x f) e
@@ -37,6 +44,12 @@ module _ {A : Type 0} where
   unfolding check
   check-ok true n p m a r e = (refl, e)
   check-ok false n p m a r e = not-ok e
+
+  -- a refused test: it failed, or what follows it was refused
+  pub check-refused {ℓ} : {X : Type ℓ} (t : Bool) (n p k q : ℕ) (m : Outcome A) → check t n p m ≡ refused k q → (t ≡ false → k ≡ n → q ≡ p → X) → (t ≡ true → m ≡ refused k q → X) → X
+  unfolding check
+  check-refused true n p k q m e f g = g refl e
+  check-refused false n p k q m e f g = let a : k ≡ n = cc in let b : q ≡ p = cc in f refl a b
 
   pub check-eq : {t : Bool} (n p : ℕ) (m : Outcome A) → t ≡ true → check t n p m ≡ m
   unfolding check

@@ -1,4 +1,4 @@
--- Every refusal has one of document 01's numbers, and a place within bounds.
+-- Every refusal has a number that is not 0, and number and place within bounds: of events the numbers end at 13.
 use mathlib.Core.Path.{_≡_, refl}
 use Prim.Native.Nat.{ℕ, zero, suc, _+_, _-_, _*_, _≤_}
 use mathlib.Core.Bool.{Bool, true, false}
@@ -9,79 +9,79 @@ use Rattle.event.specs.Choice.{pick}
 use Rattle.event.specs.Outcome.{Outcome, ok, refused, andThen, check, placed}
 use Rattle.event.specs.Reader.{readMore, readVlq, readData, readNumber, dataByte, oneData, twoData, channelData, readExclusive, metaData, readMetaOf, readMeta, readFrame, readEvent}
 
--- what a refusal keeps to: its number is one of document 01's, 1 to 30, its place is at most m
-abbrev pub Fair : {A : Type 0} → ℕ → Outcome A → Type 0
-Fair m (ok a r) = Unit {0}
-Fair m (refused n p) = ((1 ≤ n) × (n ≤ 30)) × (p ≤ m)
+-- what a refusal keeps to: its number is 1 to top, its place is at most m
+abbrev pub Fair : {A : Type 0} → ℕ → ℕ → Outcome A → Type 0
+Fair top m (ok a r) = Unit {0}
+Fair top m (refused n p) = ((1 ≤ n) × (n ≤ top)) × (p ≤ m)
 
-pub then-fair : {A B : Type 0} (m : ℕ) (x : Outcome A) (f : A → List ℕ → Outcome B) → Fair m x → ((a : A) (r : List ℕ) → x ≡ ok a r → Fair m (f a r)) → Fair m (andThen x f)
+pub then-fair : {A B : Type 0} (top m : ℕ) (x : Outcome A) (f : A → List ℕ → Outcome B) → Fair top m x → ((a : A) (r : List ℕ) → x ≡ ok a r → Fair top m (f a r)) → Fair top m (andThen x f)
 unfolding andThen
-then-fair m (ok a r) f h k = k a r refl
-then-fair m (refused n p) f h k = h
+then-fair top m (ok a r) f h k = k a r refl
+then-fair top m (refused n p) f h k = h
 
-pub check-fair : {A : Type 0} (m : ℕ) (t : Bool) (n p : ℕ) (x : Outcome A) → ((1 ≤ n) × (n ≤ 30)) × (p ≤ m) → (t ≡ true → Fair m x) → Fair m (check t n p x)
+pub check-fair : {A : Type 0} (top m : ℕ) (t : Bool) (n p : ℕ) (x : Outcome A) → ((1 ≤ n) × (n ≤ top)) × (p ≤ m) → (t ≡ true → Fair top m x) → Fair top m (check t n p x)
 unfolding check
-check-fair m true n p x h k = k refl
-check-fair m false n p x h k = h
+check-fair top m true n p x h k = k refl
+check-fair top m false n p x h k = h
 
-pub pick-fair : {A : Type 0} (m : ℕ) (t : Bool) (a b : Outcome A) → Fair m a → Fair m b → Fair m (pick t a b)
+pub pick-fair : {A : Type 0} (top m : ℕ) (t : Bool) (a b : Outcome A) → Fair top m a → Fair top m b → Fair top m (pick t a b)
 unfolding pick
-pick-fair m true a b h k = h
-pick-fair m false a b h k = k
+pick-fair top m true a b h k = h
+pick-fair top m false a b h k = k
 
-pub placed-fair : {A : Type 0} (m n p : ℕ) (x : Outcome A) → p ≤ m → Fair n x → Fair m (placed p x)
+pub placed-fair : {A : Type 0} (top m n p : ℕ) (x : Outcome A) → p ≤ m → Fair top n x → Fair top m (placed p x)
 unfolding placed
-placed-fair m n p (ok a r) h k = tt
-placed-fair m n p (refused i q) h k = (k .0, h)
+placed-fair top m n p (ok a r) h k = tt
+placed-fair top m n p (refused i q) h k = (k .0, h)
 
-more-fair : (m k acc : ℕ) (l : List ℕ) → Fair m (readMore k acc l)
+more-fair : (m k acc : ℕ) (l : List ℕ) → Fair 13 m (readMore k acc l)
 unfolding readMore
 more-fair m zero acc l = omega arith
 more-fair m (suc k) acc [] = omega arith
-more-fair m (suc k) acc (b ∷ l) = pick-fair m (ltb b 128) (ok (acc * 128 + b) l) (readMore k (acc * 128 + (b - 128)) l) tt (more-fair m k (acc * 128 + (b - 128)) l)
+more-fair m (suc k) acc (b ∷ l) = pick-fair 13 m (ltb b 128) (ok (acc * 128 + b) l) (readMore k (acc * 128 + (b - 128)) l) tt (more-fair m k (acc * 128 + (b - 128)) l)
 
-vlq-fair : (m : ℕ) (l : List ℕ) → Fair m (readVlq l)
+vlq-fair : (m : ℕ) (l : List ℕ) → Fair 13 m (readVlq l)
 unfolding readVlq
 vlq-fair m l = more-fair m 4 0 l
 
-data-fair : (m n : ℕ) (l : List ℕ) → Fair m (readData n l)
+data-fair : (m n : ℕ) (l : List ℕ) → Fair 13 m (readData n l)
 unfolding readData
-data-fair m n l = check-fair m _ 6 0 _ (omega arith) (λ e. tt)
+data-fair m n l = check-fair 13 m _ 6 0 _ (omega arith) (λ e. tt)
 
-pub number-fair : (m n : ℕ) (l : List ℕ) → Fair m (readNumber n l)
+pub number-fair : (m n : ℕ) (l : List ℕ) → Fair 13 m (readNumber n l)
 unfolding readNumber
-number-fair m n l = then-fair m _ _ (data-fair m n l) (λ d r e. tt)
+number-fair m n l = then-fair 13 m _ _ (data-fair m n l) (λ d r e. tt)
 
-byte-fair : (m : ℕ) (l : List ℕ) → Fair m (dataByte l)
+byte-fair : (m : ℕ) (l : List ℕ) → Fair 13 m (dataByte l)
 unfolding dataByte
 byte-fair m [] = omega arith
-byte-fair m (a ∷ l) = check-fair m _ 9 0 _ (omega arith) (λ e. tt)
+byte-fair m (a ∷ l) = check-fair 13 m _ 9 0 _ (omega arith) (λ e. tt)
 
-channel-fair : (m s : ℕ) (l : List ℕ) → Fair m (channelData s l)
+channel-fair : (m s : ℕ) (l : List ℕ) → Fair 13 m (channelData s l)
 unfolding channelData oneData twoData
 channel-fair m s l =
-    pick-fair m _ _ _ (then-fair m _ _ (byte-fair m l) (λ a r e. tt))
-    (then-fair m _ _ (byte-fair m l) (λ a r e. then-fair m _ _ (byte-fair m r) (λ b q d. tt)))
+    pick-fair 13 m _ _ _ (then-fair 13 m _ _ (byte-fair m l) (λ a r e. tt))
+    (then-fair 13 m _ _ (byte-fair m l) (λ a r e. then-fair 13 m _ _ (byte-fair m r) (λ b q d. tt)))
 
-meta-fair : (m : ℕ) (l : List ℕ) → Fair m (readMeta l)
+meta-fair : (m : ℕ) (l : List ℕ) → Fair 13 m (readMeta l)
 unfolding readMeta readMetaOf metaData
 meta-fair m [] = omega arith
 meta-fair m (t ∷ l) =
-    check-fair m _ 8 0 _ (omega arith) (λ c0.
-    then-fair m _ _ (vlq-fair m l) (λ n r e.
-    check-fair m _ 10 0 _ (omega arith) (λ c1.
-    then-fair m _ _ (data-fair m n r) (λ d q e2. check-fair m _ 11 0 _ (omega arith) (λ c2. tt)))))
+    check-fair 13 m _ 8 0 _ (omega arith) (λ c0.
+    then-fair 13 m _ _ (vlq-fair m l) (λ n r e.
+    check-fair 13 m _ 10 0 _ (omega arith) (λ c1.
+    then-fair 13 m _ _ (data-fair m n r) (λ d q e2. check-fair 13 m _ 11 0 _ (omega arith) (λ c2. tt)))))
 
-frame-fair : (m f : ℕ) (l : List ℕ) → Fair m (readFrame f l)
+frame-fair : (m f : ℕ) (l : List ℕ) → Fair 13 m (readFrame f l)
 unfolding readFrame readExclusive
 frame-fair m f [] = omega arith
 frame-fair m f (b ∷ l) =
-    pick-fair m _ _ _ (check-fair m _ 8 0 _ (omega arith) (λ e. channel-fair m f (b ∷ l)))
-    (pick-fair m _ _ _ (channel-fair m b l)
-    (pick-fair m _ _ _ (meta-fair m l)
-    (pick-fair m _ _ _ (then-fair m _ _ (vlq-fair m l) (λ n r e. then-fair m _ _ (data-fair m n r) (λ d q e2. tt))) (omega arith))))
+    pick-fair 13 m _ _ _ (check-fair 13 m _ 8 0 _ (omega arith) (λ e. channel-fair m f (b ∷ l)))
+    (pick-fair 13 m _ _ _ (channel-fair m b l)
+    (pick-fair 13 m _ _ _ (meta-fair m l)
+    (pick-fair 13 m _ _ _ (then-fair 13 m _ _ (vlq-fair m l) (λ n r e. then-fair 13 m _ _ (data-fair m n r) (λ d q e2. tt))) (omega arith))))
 
-pub event-fair : (m prev f : ℕ) (l : List ℕ) → Fair m (readEvent prev f l)
+pub event-fair : (m prev f : ℕ) (l : List ℕ) → Fair 13 m (readEvent prev f l)
 unfolding readEvent
 event-fair m prev f l =
-    then-fair m _ _ (vlq-fair m l) (λ d r e. check-fair m _ 7 0 _ (omega arith) (λ c. then-fair m _ _ (frame-fair m f r) (λ x q e2. tt)))
+    then-fair 13 m _ _ (vlq-fair m l) (λ d r e. check-fair 13 m _ 7 0 _ (omega arith) (λ c. then-fair 13 m _ _ (frame-fair m f r) (λ x q e2. tt)))

@@ -33,7 +33,7 @@ struct Row {
 }
 
 // The piece of the file as one track of format 0, in manner 1, into lent room, with a lent row for each track: its place, Time and
-// status in three lists. Wherever the piece could be folded, even if the room is too small or the file too long, each row then shows its
+// status in three lists. Wherever the piece could be folded, even if the room is too small or the folded file too long, each row then shows its
 // track's End_track; on every other refusal the rows, and on any refusal the room, keep what they held.
 pub fn fold(
     file: &[u8],

@@ -8,7 +8,7 @@ ghost use Rattle.event.specs.Reader.{readEvent};
 ghost use Rattle.event.specs.Step.{eventStep};
 ghost use Rattle.smf.specs.Code.Chain.{placedFrom};
 ghost use Rattle.fold_piece.specs.FoldAnswer.{rowsLent};
-ghost use Rattle.fold.specs.Code.Row.{rowOf, TracksRead, RowsFor};
+ghost use Rattle.fold.specs.Code.Row.{rowOf, TracksRead};
 ghost use Rattle.fold.specs.Code.Stand.{Rows};
 use super::ENDED;
 use super::Row;

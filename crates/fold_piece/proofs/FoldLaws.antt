@@ -1,5 +1,5 @@
 -- The folded piece: lawful, with no step too long, and with a layout wherever the old one has a file of permitted length.
-use mathlib.Core.Path.{_≡_, refl, sym, ap, ap₂}
+use mathlib.Core.Path.{_≡_, refl, sym, ap, _∙_}
 use Prim.Native.Nat.{ℕ, _+_, _*_, _≤_}
 use mathlib.Core.List.{List, [], _∷_, map}
 use native.Mathlib.Omega.{arith}
@@ -24,17 +24,20 @@ use Rattle.fold_piece.proofs.OrderLaws.{All, all-append, all-byTime}
 use Rattle.fold_piece.proofs.TrackLaws.{fold-one, fold-lawful, fold-steps}
 use Rattle.fold_piece.proofs.WideLaws.{wideRest, wide, DataFit, Fit, total, total-append, total-byTime, lay-total, wide-permitted, tracks-steps, joined-fit, joined-total}
 
--- ---- "A format 0 piece comes back the same", and any piece of one track has that track
+-- ---- a piece of one track has that track; "A format 0 piece comes back the same"
 
-zero-piece : (p : Piece) (ts : List (List Event)) → p .tracks ≡ ts → p .format ≡ 0 → length ts ≡ 1 → LawfulTracks ts → foldedPiece p ≡ p
-unfolding foldedPiece LawfulTracks
-zero-piece p [] q z n l = absurd (omega arith)
-zero-piece p (t ∷ []) q z n l =
-    rw q (ap₂ (λ a b. record { format = a; division = p .division; tracks = b }) (sym z) (ap (λ x. x ∷ []) (fold-one t (l .0))))
-zero-piece p (t ∷ (u ∷ ts)) q z n l = absurd (omega arith)
+one-track : (ts : List (List Event)) → length ts ≡ 1 → LawfulTracks ts → foldedTrack ts ∷ [] ≡ ts
+unfolding LawfulTracks
+one-track [] n l = absurd (omega arith)
+one-track (t ∷ []) n l = ap (λ x. x ∷ []) (fold-one t (l .0))
+one-track (t ∷ (u ∷ ts)) n l = absurd (omega arith)
+
+pub fold-single : (p : Piece) → LawfulPiece p → length (p .tracks) ≡ 1 → foldedPiece p ≡ record { format = 0; division = p .division; tracks = p .tracks }
+unfolding foldedPiece
+fold-single p l n = ap (λ x. record { format = 0; division = p .division; tracks = x }) (one-track (p .tracks) n (l .tracks))
 
 pub fold-zero : (p : Piece) → LawfulPiece p → p .format ≡ 0 → foldedPiece p ≡ p
-fold-zero p l z = zero-piece p (p .tracks) refl z (l .single z) (l .tracks)
+fold-zero p l z = fold-single p l (l .single z) ∙ ap (λ x. record { format = x; division = p .division; tracks = p .tracks }) (sym z)
 
 -- ---- lawful
 

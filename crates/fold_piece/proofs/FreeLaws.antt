@@ -1,21 +1,23 @@
 -- Channel_prefix and MIDI_port: a track refuses by 33, whatever comes after it, or lets through what comes; and 33 lies in the file.
 use mathlib.Core.Path.{_≡_, refl, sym, _∙_, subst}
 use Prim.Native.Nat.{ℕ, zero, suc, _≤_}
-use mathlib.Core.Bool.{Bool, true, false, not}
+use mathlib.Core.Bool.{Bool, true, false, not, false≢true}
 use mathlib.Core.List.{List, [], _∷_}
 use mathlib.Core.Logic.{_⊎_, inl, inr, ⊎-elim}
 use native.Mathlib.Omega.{arith}
 use lib.Dec.{leb}
+use borrow.Author.Tests.{le-leb, leb-true}
 use lib.ListN.{length, drop}
 use Rattle.event.specs.Bytes.{Bytes}
 use Rattle.event.specs.Choice.{pick}
 use Rattle.event.specs.Event.{isEnd}
 use Rattle.event.specs.Frame.{frame, after}
-use Rattle.event.specs.Outcome.{Outcome, refused, check, Readable}
+use Rattle.event.specs.Outcome.{Outcome, ok, refused, check, Readable}
 use Rattle.event.proofs.ChoiceLaws.{by-test}
+use Rattle.event.proofs.OutcomeLaws.{check-ok, check-refused}
 use Rattle.smf.specs.Reader.{readChunk}
 use Rattle.smf.specs.Step.{chunkStep}
-use Rattle.smf.specs.Walk.{Placed}
+use Rattle.smf.specs.Walk.{Placed, eventsOf, tracksOf}
 use Rattle.smf.specs.PlacedFile.{placedTracks}
 use Rattle.smf.specs.Code.Chain.{Tail, Chain, placedFrom}
 use Rattle.smf.specs.declared.ChunkStep.{ChunkStep}
@@ -23,6 +25,7 @@ use Rattle.smf.specs.declared.ChunkStep.the-variants.{Body, BadChunk}
 use Rattle.smf.proofs.ListLaws.{R}
 use Rattle.smf.proofs.TurnLaws.{tracks-stop}
 use Rattle.smf.proofs.PlacedLaws.{track-placed}
+use Rattle.fold_piece.specs.FoldClaims.{FreeEvents, FreeTracks}
 use Rattle.fold_piece.specs.FoldAnswer.{isPrefixOrPort, trackFree, tracksFree, severalFree}
 
 -- what refuses by 33, whatever it is given, or lets through what it is given
@@ -71,9 +74,7 @@ AllWithin n (t ∷ ts) = Within n t × AllWithin n ts
 
 module _ {A : Type 0} (n k q : ℕ) where
   test-place : (b : Bool) (p : ℕ) (x : Outcome A) → p ≤ n → check (not b) 33 p x ≡ refused k q → (q ≤ n) ⊎ (x ≡ refused k q)
-  unfolding check
-  test-place true p x h e = let s : p ≡ q = cc in inl (omega (arith, h, s))
-  test-place false p x h e = inr e
+  test-place b p x h e = check-refused (not b) 33 p k q x e (λ t a c. inl (omega (arith, h, c))) (λ t g. inr g)
 
   track-place : (es : List Placed) (x : Outcome A) → Within n es → trackFree es x ≡ refused k q → (q ≤ n) ⊎ (x ≡ refused k q)
   unfolding trackFree Within
@@ -115,3 +116,41 @@ pub placed-within : (f : List ℕ) (n at : ℕ) → Bytes f → Readable (R f n 
 unfolding placedTracks AllWithin
 placed-within f zero at bs good = tt
 placed-within f (suc n) at bs good = within-with f n at _ bs refl good (λ b g. placed-within f n b bs g)
+
+-- ---- a piece that has neither passes, and what passes has neither
+
+not-true : (b : Bool) → not b ≡ true → b ≡ false
+not-true true e = absurd (false≢true e)
+not-true false e = refl
+
+module _ {A : Type 0} where
+  track-passes : (es : List Placed) (x : Outcome A) → FreeEvents (eventsOf es) → trackFree es x ≡ x
+  unfolding trackFree FreeEvents check
+  track-passes [] x h = refl
+  track-passes (e ∷ es) x h = rw (h .0) (track-passes es x (h .1))
+
+  tracks-pass : (ts : List (List Placed)) (x : Outcome A) → FreeTracks (tracksOf ts) → tracksFree ts x ≡ x
+  unfolding tracksFree FreeTracks
+  tracks-pass [] x h = refl
+  tracks-pass (t ∷ ts) x h = track-passes t (tracksFree ts x) (h .0) ∙ tracks-pass ts x (h .1)
+
+  pub several-pass : (n : ℕ) (ts : List (List Placed)) (x : Outcome A) → (2 ≤ n → FreeTracks (tracksOf ts)) → severalFree n ts x ≡ x
+  unfolding severalFree pick
+  several-pass n ts x h = by-test (leb 2 n) (λ t. rw t (tracks-pass ts x (h (leb-true 2 n t)))) (λ t. rw t refl)
+
+  track-free : (es : List Placed) (x : Outcome A) (a : A) (r : List ℕ) → trackFree es x ≡ ok a r → FreeEvents (eventsOf es) × (x ≡ ok a r)
+  unfolding trackFree FreeEvents
+  track-free [] x a r e = (tt, e)
+  track-free (y ∷ ys) x a r e =
+      let (one, more) = check-ok (not (isPrefixOrPort (y .event .kind))) 33 (y .start) (trackFree ys x) a r e in
+      let (rest, last) = track-free ys x a r more in
+      ((not-true (isPrefixOrPort (y .event .kind)) one, rest), last)
+
+  tracks-free : (ts : List (List Placed)) (x : Outcome A) (a : A) (r : List ℕ) → tracksFree ts x ≡ ok a r → FreeTracks (tracksOf ts)
+  unfolding tracksFree FreeTracks
+  tracks-free [] x a r e = tt
+  tracks-free (t ∷ ts) x a r e = let (one, more) = track-free t (tracksFree ts x) a r e in (one, tracks-free ts x a r more)
+
+  pub several-free : (n : ℕ) (ts : List (List Placed)) (x : Outcome A) (a : A) (r : List ℕ) → severalFree n ts x ≡ ok a r → 2 ≤ n → FreeTracks (tracksOf ts)
+  unfolding severalFree pick
+  several-free n ts x a r e h = tracks-free ts x a r (rw (le-leb 2 n h) at e)

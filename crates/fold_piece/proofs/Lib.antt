@@ -6,5 +6,6 @@ pub mod FoldLaws
 pub mod StepLaws
 pub mod FreeLaws
 pub mod AnswerLaws
+mod RowsLaws
 pub mod FoldClaims
 pub mod Example

@@ -25,27 +25,27 @@ use Rattle.midicsv.specs.PieceOfText.{Told, skipped, told, framed, tellL
 -- ---- fields
 
 -- "a field of none of the three shapes"
-none-fair : ((1 ≤ 22) × (22 ≤ 30)) × (0 ≤ 0)
+none-fair : ((1 ≤ 22) × (22 ≤ 22)) × (0 ≤ 0)
 none-fair = (omega arith, omega arith)
 
-push-fair : (c : ℕ) (m : Outcome (List ℕ)) → Fair 0 m → Fair 0 (push c m)
+push-fair : (c : ℕ) (m : Outcome (List ℕ)) → Fair 22 0 m → Fair 22 0 (push c m)
 unfolding push
 push-fair c (ok d r) f = tt
 push-fair c (refused n p) f = f
 
-digits-fair : (k acc : ℕ) (l : List ℕ) → Fair 0 (readDigits k acc l)
+digits-fair : (k acc : ℕ) (l : List ℕ) → Fair 22 0 (readDigits k acc l)
 unfolding readDigits
 digits-fair zero acc [] = tt
-digits-fair zero acc (c ∷ l) = pick-fair 0 (isDigit c) _ _ none-fair tt
+digits-fair zero acc (c ∷ l) = pick-fair 22 0 (isDigit c) _ _ none-fair tt
 digits-fair (suc k) acc [] = tt
-digits-fair (suc k) acc (c ∷ l) = pick-fair 0 (isDigit c) _ _ (digits-fair k _ l) tt
+digits-fair (suc k) acc (c ∷ l) = pick-fair 22 0 (isDigit c) _ _ (digits-fair k _ l) tt
 
-number-fair : (l : List ℕ) → Fair 0 (readNumber l)
+number-fair : (l : List ℕ) → Fair 22 0 (readNumber l)
 unfolding readNumber
 number-fair [] = none-fair
-number-fair (c ∷ l) = check-fair 0 _ 22 0 _ none-fair (λ t. then-fair 0 _ _ (digits-fair 10 0 (c ∷ l)) (λ n r e. check-fair 0 _ 22 0 _ none-fair (λ u. tt)))
+number-fair (c ∷ l) = check-fair 22 0 _ 22 0 _ none-fair (λ t. then-fair 22 0 _ _ (digits-fair 10 0 (c ∷ l)) (λ n r e. check-fair 22 0 _ 22 0 _ none-fair (λ u. tt)))
 
-quoted-fair : (l : List ℕ) (s : Seen) → Fair 0 (readQuoted l s)
+quoted-fair : (l : List ℕ) (s : Seen) → Fair 22 0 (readQuoted l s)
 unfolding readQuoted
 quoted-fair [] plain = none-fair
 quoted-fair [] aQuote = tt
@@ -53,45 +53,45 @@ quoted-fair [] aSlash = none-fair
 quoted-fair [] (octal1 n) = none-fair
 quoted-fair [] (octal2 n) = none-fair
 quoted-fair (c ∷ l) plain =
-    pick-fair 0 (eqb c 34) _ _ (quoted-fair l aQuote) (pick-fair 0 (eqb c 92) _ _ (quoted-fair l aSlash) (pick-fair 0 (eqb c 13) _ _ none-fair (push-fair c _ (quoted-fair l plain))))
-quoted-fair (c ∷ l) aQuote = pick-fair 0 (eqb c 34) _ _ (push-fair 34 _ (quoted-fair l plain)) tt
+    pick-fair 22 0 (eqb c 34) _ _ (quoted-fair l aQuote) (pick-fair 22 0 (eqb c 92) _ _ (quoted-fair l aSlash) (pick-fair 22 0 (eqb c 13) _ _ none-fair (push-fair c _ (quoted-fair l plain))))
+quoted-fair (c ∷ l) aQuote = pick-fair 22 0 (eqb c 34) _ _ (push-fair 34 _ (quoted-fair l plain)) tt
 quoted-fair (c ∷ l) aSlash =
-    pick-fair 0 (eqb c 92) _ _ (push-fair 92 _ (quoted-fair l plain)) (check-fair 0 _ 22 0 _ none-fair (λ t. quoted-fair l _))
-quoted-fair (c ∷ l) (octal1 n) = check-fair 0 _ 22 0 _ none-fair (λ t. quoted-fair l _)
-quoted-fair (c ∷ l) (octal2 n) = check-fair 0 _ 22 0 _ none-fair (λ t. push-fair _ _ (quoted-fair l plain))
+    pick-fair 22 0 (eqb c 92) _ _ (push-fair 92 _ (quoted-fair l plain)) (check-fair 22 0 _ 22 0 _ none-fair (λ t. quoted-fair l _))
+quoted-fair (c ∷ l) (octal1 n) = check-fair 22 0 _ 22 0 _ none-fair (λ t. quoted-fair l _)
+quoted-fair (c ∷ l) (octal2 n) = check-fair 22 0 _ 22 0 _ none-fair (λ t. push-fair _ _ (quoted-fair l plain))
 
-name-fair : (l : List ℕ) → Fair 0 (readName l)
+name-fair : (l : List ℕ) → Fair 22 0 (readName l)
 unfolding readName
 name-fair [] = tt
-name-fair (c ∷ l) = pick-fair 0 (isLetter c) _ _ (push-fair c _ (name-fair l)) tt
+name-fair (c ∷ l) = pick-fair 22 0 (isLetter c) _ _ (push-fair c _ (name-fair l)) tt
 
-comma-fair : (f : Field) (l : List ℕ) → Fair 0 (atComma f l)
+comma-fair : (f : Field) (l : List ℕ) → Fair 22 0 (atComma f l)
 unfolding atComma
 comma-fair f [] = tt
-comma-fair f (c ∷ l) = check-fair 0 _ 22 0 _ none-fair (λ t. tt)
+comma-fair f (c ∷ l) = check-fair 22 0 _ 22 0 _ none-fair (λ t. tt)
 
-finish-fair : (f : Field) (l : List ℕ) → Fair 0 (finish f l)
+finish-fair : (f : Field) (l : List ℕ) → Fair 22 0 (finish f l)
 unfolding finish
 finish-fair f l = comma-fair f (skip l)
 
-of-fair : (l : List ℕ) → Fair 0 (fieldOf l)
+of-fair : (l : List ℕ) → Fair 22 0 (fieldOf l)
 unfolding fieldOf
 of-fair [] = none-fair
 of-fair (c ∷ l) =
-    pick-fair 0 (eqb c 34) _ _ (then-fair 0 _ _ (quoted-fair l plain) (λ d r e. finish-fair (quoted d) r))
-    (pick-fair 0 (eqb c 45) _ _ (then-fair 0 _ _ (number-fair l) (λ n r e. finish-fair (negative n) r))
-    (pick-fair 0 (isDigit c) _ _ (then-fair 0 _ _ (number-fair (c ∷ l)) (λ n r e. finish-fair (num n) r))
-    (pick-fair 0 (isLetter c) _ _ (then-fair 0 _ _ (name-fair (c ∷ l)) (λ s r e. finish-fair (name s) r)) none-fair)))
+    pick-fair 22 0 (eqb c 34) _ _ (then-fair 22 0 _ _ (quoted-fair l plain) (λ d r e. finish-fair (quoted d) r))
+    (pick-fair 22 0 (eqb c 45) _ _ (then-fair 22 0 _ _ (number-fair l) (λ n r e. finish-fair (negative n) r))
+    (pick-fair 22 0 (isDigit c) _ _ (then-fair 22 0 _ _ (number-fair (c ∷ l)) (λ n r e. finish-fair (num n) r))
+    (pick-fair 22 0 (isLetter c) _ _ (then-fair 22 0 _ _ (name-fair (c ∷ l)) (λ s r e. finish-fair (name s) r)) none-fair)))
 
-onward-fair : (f : Field) (l : List ℕ) (k : List ℕ → Outcome (List Field)) → ((m : List ℕ) → Fair 0 (k m)) → Fair 0 (onward f l k)
+onward-fair : (f : Field) (l : List ℕ) (k : List ℕ → Outcome (List Field)) → ((m : List ℕ) → Fair 22 0 (k m)) → Fair 22 0 (onward f l k)
 unfolding onward
 onward-fair f [] k h = tt
-onward-fair f (c ∷ l) k h = then-fair 0 _ _ (h l) (λ fs q e. tt)
+onward-fair f (c ∷ l) k h = then-fair 22 0 _ _ (h l) (λ fs q e. tt)
 
-fields-fair : (n : ℕ) (l : List ℕ) → Fair 0 (readFields n l)
+fields-fair : (n : ℕ) (l : List ℕ) → Fair 22 0 (readFields n l)
 unfolding readFields readField
 fields-fair zero l = none-fair
-fields-fair (suc n) l = then-fair 0 _ _ (of-fair (skip l)) (λ f r e. onward-fair f r (readFields n) (λ m. fields-fair n m))
+fields-fair (suc n) l = then-fair 22 0 _ _ (of-fair (skip l)) (λ f r e. onward-fair f r (readFields n) (λ m. fields-fair n m))
 
 -- ---- lines
 
@@ -197,7 +197,7 @@ record-named (a ∷ b ∷ c ∷ fs) =
     next-named _ _ (column-named _ b) (λ time.
     next-named _ _ (columns-named _ _ fs) (λ v. test-named _ 25 _ (omega arith) tt)))))
 
-of-fields-named : (m : Outcome (List Field)) → Fair 0 m → Named (ofFields m)
+of-fields-named : (m : Outcome (List Field)) → Fair 22 0 m → Named (ofFields m)
 unfolding ofFields
 of-fields-named (ok fs r) h = record-named fs
 of-fields-named (refused n p) h = h .0 .0

@@ -95,7 +95,7 @@ file-kept f p old r new l k c =
       same = λ manner g. laid-read (fileOf (mannerNumbered manner) p) p (manner-laid (mannerNumbered manner) f p l k) g;
     }
 
-from-file-with : (f old : List ℕ) (r : ℕ) (x : Outcome Piece) → Bytes f → readFile f ≡ x → Fair (length f) x → r ≡ packed (textAnswer (length old) x) → numberOf r ≡ 0
+from-file-with : (f old : List ℕ) (r : ℕ) (x : Outcome Piece) → Bytes f → readFile f ≡ x → Fair 13 (length f) x → r ≡ packed (textAnswer (length old) x) → numberOf r ≡ 0
     → (p : Piece) × LaidOut f p × (length f ≤ fileLimit)
 unfolding textAnswer
 from-file-with f old r (ok p q) bs e fair c z = let (laid, short) = file-sound f p q bs e in (p, laid .laid, short)

@@ -1,4 +1,4 @@
--- Every refusal of a file has one of document 01's numbers, and its place lies in the file.
+-- Every refusal of a file has a number from 1 to 13, and its place lies in the file.
 use mathlib.Core.Path.{_≡_, refl, sym, ap, _∙_}
 use Prim.Native.Nat.{ℕ, zero, suc, _+_, _-_, _≤_}
 use mathlib.Core.Bool.{Bool, true, false}
@@ -24,79 +24,79 @@ use Rattle.smf.specs.Answer.{refusal, verdict}
 use Rattle.smf.specs.declared.Answer.{Answer}
 use Rattle.smf.proofs.FileLaws.{ChunkLaid, chunk-sound, track-sound, header-sound, header-size}
 
-go-fair : (m : ℕ) (b : Bool) (at : ℕ) (e : Event) (r : List ℕ) (k : Outcome (List Event)) → at ≤ m → Fair m k → Fair m (goOn b at e r k)
+go-fair : (m : ℕ) (b : Bool) (at : ℕ) (e : Event) (r : List ℕ) (k : Outcome (List Event)) → at ≤ m → Fair 13 m k → Fair 13 m (goOn b at e r k)
 unfolding goOn ended
 go-fair m true at e [] k h g = tt
 go-fair m true at e (b ∷ r) k h g = (omega arith, h)
-go-fair m false at e r k h g = then-fair m k _ g (λ es q c. tt)
+go-fair m false at e r k h g = then-fair 13 m k _ g (λ es q c. tt)
 
-events-fair : (m n at prev f : ℕ) (l : List ℕ) → Bytes l → at + length l ≤ m → Fair m (readEvents n at prev f l)
+events-fair : (m n at prev f : ℕ) (l : List ℕ) → Bytes l → at + length l ≤ m → Fair 13 m (readEvents n at prev f l)
 unfolding readEvents
 events-fair m zero at prev f l bs h = omega arith
 events-fair m (suc n) at prev f l bs h =
-    then-fair m _ _ (placed-fair m 0 at (readEvent prev f l) (omega arith) (event-fair 0 prev f l)) (λ e r c.
+    then-fair 13 m _ _ (placed-fair 13 m 0 at (readEvent prev f l) (omega arith) (event-fair 0 prev f l)) (λ e r c.
     let (shorter, br) = event-shorter prev f l e r bs (placed-ok at _ e r c) in
     go-fair m (isEnd (e .kind)) (at + (length l - length r)) e r _ (omega arith)
     (events-fair m n (at + (length l - length r)) (e .time) (after (frame (e .kind))) r br (omega arith)))
 
-chunk-fair : (m at : ℕ) (l : List ℕ) → at ≤ m → Fair m (readChunk at l)
+chunk-fair : (m at : ℕ) (l : List ℕ) → at ≤ m → Fair 13 m (readChunk at l)
 unfolding readChunk
 chunk-fair m at l h =
-    check-fair m _ 2 at _ (omega arith) (λ c0.
-    then-fair m _ _ (number-fair m 4 l) (λ tag l1 q1.
-    check-fair m _ 4 at _ (omega arith) (λ c1.
-    then-fair m _ _ (number-fair m 4 l1) (λ n l2 q2. check-fair m _ 2 at _ (omega arith) (λ c2. tt)))))
+    check-fair 13 m _ 2 at _ (omega arith) (λ c0.
+    then-fair 13 m _ _ (number-fair m 4 l) (λ tag l1 q1.
+    check-fair 13 m _ 4 at _ (omega arith) (λ c1.
+    then-fair 13 m _ _ (number-fair m 4 l1) (λ n l2 q2. check-fair 13 m _ 2 at _ (omega arith) (λ c2. tt)))))
 
 -- a chunk's bytes are eight, its body and the rest
 pub chunk-size : (l body r : List ℕ) → ChunkLaid l body r → length l ≡ 8 + length body + length r
 chunk-size l body r laid = ap length (laid .bytes) ∙ simp (length-append, length-bigEndian) (omega arith)
 
-track-fair : (m at : ℕ) (l : List ℕ) → Bytes l → at + length l ≤ m → Fair m (readTrack at l)
+track-fair : (m at : ℕ) (l : List ℕ) → Bytes l → at + length l ≤ m → Fair 13 m (readTrack at l)
 unfolding readTrack readAll
 track-fair m at l bs h =
-    then-fair m _ _ (chunk-fair m at l (omega arith)) (λ body r q.
+    then-fair 13 m _ _ (chunk-fair m at l (omega arith)) (λ body r q.
     let laid = chunk-sound at l body r bs q in
     let size = chunk-size l body r laid in
-    then-fair m _ _ (events-fair m (suc (length body)) (at + 8) 0 noStatus body (laid .inside) (omega arith)) (λ es z e. tt))
+    then-fair 13 m _ _ (events-fair m (suc (length body)) (at + 8) 0 noStatus body (laid .inside) (omega arith)) (λ es z e. tt))
 
-tracks-fair : (m n at : ℕ) (l : List ℕ) → Bytes l → at + length l ≤ m → Fair m (readTracks n at l)
+tracks-fair : (m n at : ℕ) (l : List ℕ) → Bytes l → at + length l ≤ m → Fair 13 m (readTracks n at l)
 unfolding readTracks
 tracks-fair m zero at l bs h = tt
 tracks-fair m (suc n) at l bs h =
-    then-fair m _ _ (track-fair m at l bs h) (λ t r q.
+    then-fair 13 m _ _ (track-fair m at l bs h) (λ t r q.
     let laid = track-sound at l t r bs q in
     let size : length l ≡ length (layTrack t (laid .spelling)) + length r = ap length (laid .bytes) ∙ length-append (layTrack t (laid .spelling)) r in
-    then-fair m _ _ (tracks-fair m n (at + (length l - length r)) r (laid .after) (omega arith)) (λ ts s e. tt))
+    then-fair 13 m _ _ (tracks-fair m n (at + (length l - length r)) r (laid .after) (omega arith)) (λ ts s e. tt))
 
-header-fair : (f : List ℕ) → Fair (length f) (readHeader f)
+header-fair : (f : List ℕ) → Fair 13 (length f) (readHeader f)
 unfolding readHeader
 header-fair f =
     let m : ℕ = length f in
-    check-fair m _ 2 0 _ (omega arith) (λ c.
+    check-fair 13 m _ 2 0 _ (omega arith) (λ c.
     let big : 14 ≤ length f = leb-true 14 (length f) c in
-    then-fair m _ _ (number-fair m 4 f) (λ a l1 q1. check-fair m _ 3 0 _ (omega arith) (λ c1.
-    then-fair m _ _ (number-fair m 4 l1) (λ b l2 q2. check-fair m _ 3 4 _ (omega arith) (λ c2.
-    then-fair m _ _ (number-fair m 2 l2) (λ d l3 q3. check-fair m _ 3 8 _ (omega arith) (λ c3.
-    then-fair m _ _ (number-fair m 2 l3) (λ e l4 q4. check-fair m _ 3 10 _ (omega arith) (λ c4.
-    then-fair m _ _ (number-fair m 2 l4) (λ g l5 q5. check-fair m _ 3 12 _ (omega arith) (λ c5. tt)))))))))))
+    then-fair 13 m _ _ (number-fair m 4 f) (λ a l1 q1. check-fair 13 m _ 3 0 _ (omega arith) (λ c1.
+    then-fair 13 m _ _ (number-fair m 4 l1) (λ b l2 q2. check-fair 13 m _ 3 4 _ (omega arith) (λ c2.
+    then-fair 13 m _ _ (number-fair m 2 l2) (λ d l3 q3. check-fair 13 m _ 3 8 _ (omega arith) (λ c3.
+    then-fair 13 m _ _ (number-fair m 2 l3) (λ e l4 q4. check-fair 13 m _ 3 10 _ (omega arith) (λ c4.
+    then-fair 13 m _ _ (number-fair m 2 l4) (λ g l5 q5. check-fair 13 m _ 3 12 _ (omega arith) (λ c5. tt)))))))))))
 
-more-fair : (m at : ℕ) (p : Piece) (l : List ℕ) → at ≤ m → Fair m (noMore at p l)
+more-fair : (m at : ℕ) (p : Piece) (l : List ℕ) → at ≤ m → Fair 13 m (noMore at p l)
 unfolding noMore
 more-fair m at p [] h = tt
 more-fair m at p (b ∷ l) h = (omega arith, h)
 
-pub file-fair : (f : List ℕ) → Bytes f → Fair (length f) (readFile f)
+pub file-fair : (f : List ℕ) → Bytes f → Fair 13 (length f) (readFile f)
 unfolding readFile readPiece
 file-fair f bs =
-    check-fair (length f) _ 1 0 _ (omega arith) (λ c.
-    then-fair (length f) _ _ (header-fair f) (λ h l q.
+    check-fair 13 (length f) _ 1 0 _ (omega arith) (λ c.
+    then-fair 13 (length f) _ _ (header-fair f) (λ h l q.
     let laid = header-sound f h l bs q in
     let size : length f ≡ 14 + length l = ap length (laid .bytes) ∙ header-size (h .format) (h .count) (h .division) l in
-    then-fair (length f) _ _ (tracks-fair (length f) (h .count) (length f - length l) l (laid .after) (omega arith)) (λ ts r e. more-fair (length f) _ _ r (omega arith))))
+    then-fair 13 (length f) _ _ (tracks-fair (length f) (h .count) (length f - length l) l (laid .after) (omega arith)) (λ ts r e. more-fair (length f) _ _ r (omega arith))))
 
 -- ---- what a verdict says
 
-zero-readable : (m : ℕ) (x : Outcome Piece) → Fair m x → verdict x .number ≡ 0 → Readable x
+zero-readable : (m : ℕ) (x : Outcome Piece) → Fair 13 m x → verdict x .number ≡ 0 → Readable x
 unfolding verdict Readable
 zero-readable m (ok p r) h z = tt
 zero-readable m (refused n q) h z = absurd (omega arith)
@@ -113,7 +113,7 @@ judged-refused (refused k q) v e h f = f k q refl e
 
 -- ---- what packing a verdict needs
 
-place-fair : (m : ℕ) (x : Outcome Piece) → Fair m x → verdict x .place ≤ m
+place-fair : (m : ℕ) (x : Outcome Piece) → Fair 13 m x → verdict x .place ≤ m
 unfolding verdict
 place-fair m (ok p r) h = omega arith
 place-fair m (refused n q) h = h .1

@@ -1,9 +1,9 @@
-use Prim.Native.Nat.{_-_, _≤_, max}
-use lib.ListN.{take, getD}
+use Prim.Native.Nat.{_-_, _≤_}
+use lib.ListN.{take}
 use Rattle.fold_piece.specs.Fold.{greatest}
 use Rattle.fold.proofs.EndLaws.{greatest-more}
 use native.Mathlib.Omega.{arith}
-use mathlib.Core.Path.{_≡_, refl, sym, _∙_, ap}
+use mathlib.Core.Path.{_≡_, refl, _∙_, ap}
 use borrow.Author.Needs.{needs}
 use Rattle.fold.proofs.search.greatest_time.Statement.{statement}
 use Rattle.fold.proofs.search.greatest_time.Tie as tie
