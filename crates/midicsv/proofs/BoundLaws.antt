@@ -26,13 +26,13 @@ use Rattle.midicsv.proofs.LineBoundLaws.{columnCost, columnsCost, tailC
 -- ---- each kind of event
 
 -- the fewest bytes that an event takes, with its delta
-unfoldable fewest : Frame → ℕ
+unfoldable pub fewest : Frame → ℕ
 fewest (channel1 s a) = 2
 fewest (channel2 s a b) = 3
 fewest (exclusive s d) = 3 + length d
 fewest (meta t d) = 4 + length d
 
-fewest-laid : (force : ℕ) (x : Frame) (s : Rest) → Spelled force x s → fewest x ≤ 1 + length (layFrame x s)
+pub fewest-laid : (force : ℕ) (x : Frame) (s : Rest) → Spelled force x s → fewest x ≤ 1 + length (layFrame x s)
 unfolding fewest layFrame layChannel Spelled
 fewest-laid force (channel1 s a) (leftOut true) p = omega arith
 fewest-laid force (channel1 s a) (leftOut false) p = omega arith
@@ -45,7 +45,7 @@ fewest-laid force (exclusive s d) (lengthIn w) p = simp length-append (omega (ar
 fewest-laid force (meta t d) (leftOut o) p = absurd p
 fewest-laid force (meta t d) (lengthIn w) p = simp length-append (omega (arith, vlq-size w (length d)))
 
-text-cost : (t : ℕ) → 1 ≤ t → t ≤ 7 → length (eventSpelled (words t)) ≤ 17
+pub text-cost : (t : ℕ) → 1 ≤ t → t ≤ 7 → length (eventSpelled (words t)) ≤ 17
 unfolding eventSpelled
 text-cost zero h k = absurd (omega arith)
 text-cost (suc zero) h k = omega arith
@@ -57,7 +57,7 @@ text-cost (suc (suc (suc (suc (suc (suc zero)))))) h k = omega arith
 text-cost (suc (suc (suc (suc (suc (suc (suc zero))))))) h k = omega arith
 text-cost (suc (suc (suc (suc (suc (suc (suc (suc t)))))))) h k = absurd (omega arith)
 
-enough : (k : Kind) → Fits k → cost (event (nameOf k)) (length (valuesOf k .body)) ≤ 25 * fewest (frame k)
+pub enough : (k : Kind) → Fits k → cost (event (nameOf k)) (length (valuesOf k .body)) ≤ 25 * fewest (frame k)
 unfolding cost nameOf valuesOf frame fewest spelled eventSpelled shape eventShape columnsCost columnCost tailCost decimal digitsOf pick Fits bigEndian bytesOnto
 enough (noteOff c k v) h = omega arith
 enough (noteOn c k v) h = omega arith
@@ -80,11 +80,11 @@ enough (keySignature k m) h = omega arith
 enough (sequencerSpecific d) h = omega arith
 enough (unknownMeta t d) h = omega arith
 
-line-bound : (track : ℕ) (e : Event) → track ≤ 65535 → Fits (e .kind) → length (recordLine (eventRecord track e)) + 1 ≤ cost (event (nameOf (e .kind))) (length (valuesOf (e .kind) .body))
+pub line-bound : (track : ℕ) (e : Event) → track ≤ 65535 → Fits (e .kind) → length (recordLine (eventRecord track e)) + 1 ≤ cost (event (nameOf (e .kind))) (length (valuesOf (e .kind) .body))
 unfolding eventRecord shape
 line-bound track e h f = let r = rowed (e .kind) f in record-cost (eventRecord track e) h (r .columns) (r .tail)
 
-event-bound : (track prev force : ℕ) (e : Event) (s : Spelling) → track ≤ 65535 → Fits (e .kind) → Permitted prev force e s
+pub event-bound : (track prev force : ℕ) (e : Event) (s : Spelling) → track ≤ 65535 → Fits (e .kind) → Permitted prev force e s
     → length (recordLine (eventRecord track e)) + 1 ≤ 25 * length (layEvent prev e s)
 unfolding layEvent
 event-bound track prev force e s h f p =
@@ -99,15 +99,15 @@ texts-append [] qs = refl
 texts-append (r ∷ rs) qs =
     ap (λ z. recordLine r ++ (10 ∷ z)) (texts-append rs qs) ∙ sym (append-assoc (recordLine r) (10 ∷ recordsText rs) (recordsText qs))
 
-texts-length : (rs qs : List Record) → length (recordsText (rs ++ qs)) ≡ length (recordsText rs) + length (recordsText qs)
+pub texts-length : (rs qs : List Record) → length (recordsText (rs ++ qs)) ≡ length (recordsText rs) + length (recordsText qs)
 texts-length rs qs = ap length (texts-append rs qs) ∙ length-append (recordsText rs) (recordsText qs)
 
-last-length : (r : Record) → length (recordsText (r ∷ [])) ≡ length (recordLine r) + 1
+pub last-length : (r : Record) → length (recordsText (r ∷ [])) ≡ length (recordLine r) + 1
 unfolding recordsText
 last-length r = simp length-append (omega arith)
 
 -- after End_track there is no event
-rest-bound : (b : Bool) (track prev : ℕ) (es : List Event) (ss : List Spelling) (P : Type 0) → Ends b es P
+pub rest-bound : (b : Bool) (track prev : ℕ) (es : List Event) (ss : List Spelling) (P : Type 0) → Ends b es P
     → (P → length (recordsText (eventRecords track es)) ≤ 25 * length (layEvents prev es ss)) → length (recordsText (eventRecords track es)) ≤ 25 * length (layEvents prev es ss)
 unfolding Ends eventRecords recordsText
 rest-bound true track prev es ss P n f = rw n (omega arith)
@@ -123,11 +123,11 @@ events-bound track prev force (e ∷ es) (s ∷ ss) h l p =
     let rest = rest-bound (isEnd (e .kind)) track (e .time) es ss _ (l .1) (λ q. events-bound track (e .time) (after (frame (e .kind))) es ss h q (p .1)) in
     simp length-append (omega arith)
 
-start-bound : (n : ℕ) → n ≤ 65535 → length (recordLine (mark start-track n)) + 1 ≤ 200
+pub start-bound : (n : ℕ) → n ≤ 65535 → length (recordLine (mark start-track n)) + 1 ≤ 200
 unfolding cost spelled shape columnsCost tailCost InColumns InTail
 start-bound n h = omega (arith, record-cost (mark start-track n) h tt refl)
 
-end-bound : length (recordLine (mark end-of-file 0)) + 1 ≤ 100
+pub end-bound : length (recordLine (mark end-of-file 0)) + 1 ≤ 100
 unfolding cost spelled shape columnsCost tailCost InColumns InTail
 end-bound = omega (arith, record-cost (mark end-of-file 0) (omega arith) tt refl)
 

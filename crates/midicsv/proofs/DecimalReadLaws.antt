@@ -20,12 +20,12 @@ pub digit-yes : (c : ℕ) → Digit c → isDigit c ≡ true
 unfolding isDigit
 digit-yes c h = rw (le-leb 48 c (h .0), le-leb c 57 (h .1))
 
-one-more : (k acc d : ℕ) (l : List ℕ) → d < 10 → readDigits (suc k) acc ((48 + d) ∷ l) ≡ readDigits k (acc * 10 + d) l
+pub one-more : (k acc d : ℕ) (l : List ℕ) → d < 10 → readDigits (suc k) acc ((48 + d) ∷ l) ≡ readDigits k (acc * 10 + d) l
 unfolding readDigits
 one-more k acc d l h = pick-true _ _ (digit-yes (48 + d) (omega arith)) ∙ ap (λ n. readDigits k n l) (omega arith)
 
 -- the digits of n are read to n
-digits-read : (j n k : ℕ) (r : List ℕ) → n < ten (suc j) → readDigits (length (digitsOf j n) + k) 0 (digitsOf j n ++ r) ≡ readDigits k n r
+pub digits-read : (j n k : ℕ) (r : List ℕ) → n < ten (suc j) → readDigits (length (digitsOf j n) + k) 0 (digitsOf j n ++ r) ≡ readDigits k n r
 unfolding digitsOf pick
 digits-read zero n k r h = ap (λ z. readDigits z 0 ((48 + n) ∷ r)) (omega arith) ∙ one-more k 0 n r (omega arith) ∙ ap (λ z. readDigits k z r) (omega arith)
 digits-read (suc j) n k r h =
@@ -42,7 +42,7 @@ digits-read (suc j) n k r h =
     ∙ one-more k (n / 10) (n % 10) r (omega arith)
     ∙ ap (λ z. readDigits k z r) (omega arith)))
 
-all-digits : (j n : ℕ) → n < ten (suc j) → All Digit (digitsOf j n)
+pub all-digits : (j n : ℕ) → n < ten (suc j) → All Digit (digitsOf j n)
 unfolding digitsOf pick
 all-digits zero n h = omega arith
 all-digits (suc j) n h =
@@ -58,14 +58,14 @@ abbrev pub NoDigit : List ℕ → Type 0
 NoDigit [] = Unit {0}
 NoDigit (c ∷ l) = isDigit c ≡ false
 
-stop : (k n : ℕ) (r : List ℕ) → NoDigit r → readDigits k n r ≡ ok n r
+pub stop : (k n : ℕ) (r : List ℕ) → NoDigit r → readDigits k n r ≡ ok n r
 unfolding readDigits
 stop zero n [] h = refl
 stop (suc k) n [] h = refl
 stop zero n (c ∷ l) h = pick-false _ _ h
 stop (suc k) n (c ∷ l) h = pick-false _ _ h
 
-starts : (l r : List ℕ) → (1 ≤ length l) × All Digit l → readNumber (l ++ r) ≡ andThen (readDigits 10 0 (l ++ r)) (λ n q. check (leb n 4294967295) 22 0 (ok n q))
+pub starts : (l r : List ℕ) → (1 ≤ length l) × All Digit l → readNumber (l ++ r) ≡ andThen (readDigits 10 0 (l ++ r)) (λ n q. check (leb n 4294967295) 22 0 (ok n q))
 unfolding readNumber
 starts [] r h = absurd (omega arith)
 starts (c ∷ l) r h = check-eq 22 0 _ (digit-yes c (h .1 .0))

@@ -35,37 +35,37 @@ AllGood (f ∷ fs) = Good f × AllGood fs
 
 -- ---- after a field: the end, or a comma
 
-abbrev Ends : List ℕ → Type 0
+abbrev pub Ends : List ℕ → Type 0
 Ends [] = Unit {0}
 Ends (c ∷ l) = c ≡ 44
 
-ends-digit : (r : List ℕ) → Ends r → NoDigit r
+pub ends-digit : (r : List ℕ) → Ends r → NoDigit r
 unfolding isDigit
 ends-digit [] h = tt
 ends-digit (c ∷ l) h = rw h
 
-ends-quote : (r : List ℕ) → Ends r → NoQuote r
+pub ends-quote : (r : List ℕ) → Ends r → NoQuote r
 ends-quote [] h = tt
 ends-quote (c ∷ l) h = rw h
 
-finish-ends : (f : Field) (r : List ℕ) → Ends r → finish f r ≡ ok f r
+pub finish-ends : (f : Field) (r : List ℕ) → Ends r → finish f r ≡ ok f r
 unfolding finish skip isBlank pick atComma check
 finish-ends f [] h = refl
 finish-ends f (c ∷ l) h = rw h
 
 -- ---- by the first byte
 
-letter-range : (c : ℕ) → isLetter c ≡ true → 65 ≤ c
+pub letter-range : (c : ℕ) → isLetter c ≡ true → 65 ≤ c
 unfolding isLetter
 letter-range c e =
     or-cases (leb 65 c && leb c 90) _ e (λ t. leb-true 65 c (and-both (leb 65 c) (leb c 90) t .0)) (λ e2.
     or-cases (leb 97 c && leb c 122) _ e2 (λ t. let h = leb-true 97 c (and-both (leb 97 c) (leb c 122) t .0) in omega arith) (λ t. let h = eqb-true c 95 t in omega arith))
 
-high-digit : (c : ℕ) → 58 ≤ c → isDigit c ≡ false
+pub high-digit : (c : ℕ) → 58 ≤ c → isDigit c ≡ false
 unfolding isDigit
 high-digit c h = rw (le-leb 48 c (omega arith), lt-leb c 57 (omega arith))
 
-not-blank : (c : ℕ) → 33 ≤ c → isBlank c ≡ false
+pub not-blank : (c : ℕ) → 33 ≤ c → isBlank c ≡ false
 unfolding isBlank
 not-blank c h = rw (ne-eqb c 32 (λ e. omega arith), ne-eqb c 9 (λ e. omega arith))
 
@@ -73,17 +73,17 @@ pub skip-none : (c : ℕ) (l : List ℕ) → 33 ≤ c → skip (c ∷ l) ≡ c �
 unfolding skip
 skip-none c l h = pick-false _ _ (not-blank c h)
 
-comma : isLetter 44 ≡ false
+pub comma : isLetter 44 ≡ false
 unfolding isLetter
 comma = refl
 
-name-read : (s r : List ℕ) → allLetters s ≡ true → Ends r → readName (s ++ r) ≡ ok s r
+pub name-read : (s r : List ℕ) → allLetters s ≡ true → Ends r → readName (s ++ r) ≡ ok s r
 unfolding readName allLetters
 name-read [] [] a h = refl
 name-read [] (c ∷ l) a h = pick-false _ _ (rw h comma)
 name-read (c ∷ s) r a h = let (p, q) = and-both (isLetter c) (allLetters s) a in pick-true _ _ p ∙ push-eq c (name-read s r q h)
 
-number-field : (l r : List ℕ) → (1 ≤ length l) × All Digit l → readField (l ++ r) ≡ andThen (readNumber (l ++ r)) (λ n q. finish (num n) q)
+pub number-field : (l r : List ℕ) → (1 ≤ length l) × All Digit l → readField (l ++ r) ≡ andThen (readNumber (l ++ r)) (λ n q. finish (num n) q)
 unfolding readField fieldOf
 number-field [] r h = absurd (omega arith)
 number-field (c ∷ l) r h =
@@ -92,7 +92,7 @@ number-field (c ∷ l) r h =
     ∙ pick-false _ _ (ne-eqb c 45 (λ e. omega arith))
     ∙ pick-true _ _ (digit-yes c (h .1 .0))
 
-name-field : (s r : List ℕ) → 1 ≤ length s → allLetters s ≡ true → readField (s ++ r) ≡ andThen (readName (s ++ r)) (λ n q. finish (name n) q)
+pub name-field : (s r : List ℕ) → 1 ≤ length s → allLetters s ≡ true → readField (s ++ r) ≡ andThen (readName (s ++ r)) (λ n q. finish (name n) q)
 unfolding readField fieldOf allLetters
 name-field [] r h a = absurd (omega arith)
 name-field (c ∷ s) r h a =
@@ -104,17 +104,17 @@ name-field (c ∷ s) r h a =
     ∙ pick-false _ _ (high-digit c (omega arith))
     ∙ pick-true _ _ p
 
-minus-field : (n : ℕ) (l r : List ℕ) → 1 ≤ n → readNumber l ≡ ok n r → Ends r → readField (45 ∷ l) ≡ ok (minus n) r
+pub minus-field : (n : ℕ) (l r : List ℕ) → 1 ≤ n → readNumber l ≡ ok n r → Ends r → readField (45 ∷ l) ≡ ok (minus n) r
 unfolding readField fieldOf negative
 minus-field zero l r h e en = absurd (omega arith)
 minus-field (suc n) l r h e en =
     ap fieldOf (skip-none 45 l (omega arith)) ∙ pick-false _ _ refl ∙ pick-true _ _ refl ∙ andThen-eq _ e ∙ finish-ends (minus (suc n)) r en
 
-quoted-field : (d l r : List ℕ) → readQuoted l plain ≡ ok d r → Ends r → readField (34 ∷ l) ≡ ok (quoted d) r
+pub quoted-field : (d l r : List ℕ) → readQuoted l plain ≡ ok d r → Ends r → readField (34 ∷ l) ≡ ok (quoted d) r
 unfolding readField fieldOf
 quoted-field d l r e en = ap fieldOf (skip-none 34 l (omega arith)) ∙ pick-true _ _ refl ∙ andThen-eq _ e ∙ finish-ends (quoted d) r en
 
-show-read : (f : Field) (r : List ℕ) → Good f → Ends r → readField (show f ++ r) ≡ ok f r
+pub show-read : (f : Field) (r : List ℕ) → Good f → Ends r → readField (show f ++ r) ≡ ok f r
 unfolding show Good quote
 show-read (num n) r g h =
     number-field (decimal n) r (decimal-digits n g) ∙ andThen-eq _ (decimal-read n r g (ends-digit r h)) ∙ finish-ends (num n) r h
@@ -125,25 +125,25 @@ show-read (quoted d) r g h =
 
 -- ---- a line
 
-ends-further : (fs : List Field) → Ends (further fs)
+pub ends-further : (fs : List Field) → Ends (further fs)
 unfolding further
 ends-further [] = tt
 ends-further (f ∷ fs) = refl
 
-blank-first : (l : List ℕ) (n : ℕ) → readFields n (32 ∷ l) ≡ readFields n l
+pub blank-first : (l : List ℕ) (n : ℕ) → readFields n (32 ∷ l) ≡ readFields n l
 unfolding readFields readField skip isBlank pick
 blank-first l zero = refl
 blank-first l (suc n) = refl
 
-last-field : (n : ℕ) (f : Field) → onward f (further []) (readFields n) ≡ ok (f ∷ []) []
+pub last-field : (n : ℕ) (f : Field) → onward f (further []) (readFields n) ≡ ok (f ∷ []) []
 unfolding onward further
 last-field n f = refl
 
-next-field : (n : ℕ) (f x : Field) (fs : List Field) → readFields n (32 ∷ (show x ++ further fs)) ≡ ok (x ∷ fs) [] → onward f (further (x ∷ fs)) (readFields n) ≡ ok (f ∷ x ∷ fs) []
+pub next-field : (n : ℕ) (f x : Field) (fs : List Field) → readFields n (32 ∷ (show x ++ further fs)) ≡ ok (x ∷ fs) [] → onward f (further (x ∷ fs)) (readFields n) ≡ ok (f ∷ x ∷ fs) []
 unfolding onward further
 next-field n f x fs e = andThen-eq _ e
 
-further-read : (n : ℕ) (f : Field) (fs : List Field) → Good f → AllGood fs → length fs < n → readFields n (show f ++ further fs) ≡ ok (f ∷ fs) []
+pub further-read : (n : ℕ) (f : Field) (fs : List Field) → Good f → AllGood fs → length fs < n → readFields n (show f ++ further fs) ≡ ok (f ∷ fs) []
 unfolding readFields
 further-read zero f fs g gs h = absurd (omega arith)
 further-read (suc n) f [] g gs h = andThen-eq _ (show-read f (further []) g (ends-further [])) ∙ last-field n f
@@ -151,7 +151,7 @@ further-read (suc n) f (x ∷ fs) g gs h =
     andThen-eq _ (show-read f (further (x ∷ fs)) g (ends-further (x ∷ fs)))
     ∙ next-field n f x fs (blank-first (show x ++ further fs) n ∙ further-read n x fs (gs .0) (gs .1) (omega arith))
 
-further-size : (fs : List Field) → length fs ≤ length (further fs)
+pub further-size : (fs : List Field) → length fs ≤ length (further fs)
 unfolding further
 further-size [] = omega arith
 further-size (f ∷ fs) = let h = further-size fs in simp length-append (omega arith)
@@ -162,7 +162,7 @@ line-read f fs g = further-read _ f fs (g .0) (g .1) (omega (arith, further-size
 
 -- ---- no control bytes
 
-letters-printable : (s : List ℕ) → allLetters s ≡ true → All Printable s
+pub letters-printable : (s : List ℕ) → allLetters s ≡ true → All Printable s
 unfolding allLetters
 letters-printable [] a = tt
 letters-printable (c ∷ s) a =
@@ -170,18 +170,18 @@ letters-printable (c ∷ s) a =
     let h = letter-range c p in
     (omega arith, letters-printable s q)
 
-digits-printable : (l : List ℕ) → All Digit l → All Printable l
+pub digits-printable : (l : List ℕ) → All Digit l → All Printable l
 digits-printable [] a = tt
 digits-printable (c ∷ l) a = (omega arith, digits-printable l (a .1))
 
-show-printable : (f : Field) → Good f → All Printable (show f)
+pub show-printable : (f : Field) → Good f → All Printable (show f)
 unfolding show Good
 show-printable (num n) g = digits-printable (decimal n) (decimal-digits n g .1)
 show-printable (minus n) g = (omega arith, digits-printable (decimal n) (decimal-digits n (g .1) .1))
 show-printable (name s) g = letters-printable s (g .1)
 show-printable (quoted d) g = quote-printable d
 
-further-printable : (fs : List Field) → AllGood fs → All Printable (further fs)
+pub further-printable : (fs : List Field) → AllGood fs → All Printable (further fs)
 unfolding further
 further-printable [] g = tt
 further-printable (f ∷ fs) g = (omega arith, (omega arith, all-append Printable (show f) (further fs) (show-printable f (g .0)) (further-printable fs (g .1))))

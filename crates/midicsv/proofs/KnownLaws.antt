@@ -27,7 +27,7 @@ pub frames-known : FramesKnown
 unfolding nameFrom spelled eventSpelled find sameName lower pick allLetters isLetter
 frames-known = record { first = (omega arith, refl, refl); start = (omega arith, refl, refl); last = (omega arith, refl, refl) }
 
-words-known : (t : ℕ) → 1 ≤ t → t ≤ 7 → Known (event (words t))
+pub words-known : (t : ℕ) → 1 ≤ t → t ≤ 7 → Known (event (words t))
 unfolding nameFrom spelled eventSpelled find sameName lower pick allLetters isLetter
 words-known zero h k = absurd (omega arith)
 words-known (suc zero) h k = (omega arith, refl, refl)

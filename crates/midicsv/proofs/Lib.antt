@@ -1,22 +1,22 @@
 pub mod FieldLaws
 pub mod NameLaws
-mod Example
+pub mod Example
 pub mod RowLaws
-mod LineBoundLaws
+pub mod LineBoundLaws
 pub mod BoundLaws
-mod TextReadings
+pub mod TextReadings
 pub mod ResultLaws
 pub mod AllLaws
-mod DecimalReadLaws
+pub mod DecimalReadLaws
 pub mod QuotedReadLaws
-mod FieldReadLaws
-mod KnownLaws
-mod RowReadLaws
-mod RecordReadLaws
+pub mod FieldReadLaws
+pub mod KnownLaws
+pub mod RowReadLaws
+pub mod RecordReadLaws
 pub mod LineLaws
 pub mod LayableLaws
 pub mod KindNamedLaws
-mod OrderLaws
+pub mod OrderLaws
 pub mod TextReadLaws
 pub mod FieldPartLaws
 pub mod FieldsLaws

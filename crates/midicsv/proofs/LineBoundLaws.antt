@@ -18,7 +18,7 @@ use Rattle.midicsv.proofs.RowLaws.{InColumn, InColumns, InTail}
 -- ---- numbers
 
 -- a smaller number has no more digits
-digits-mono : (j n m : ℕ) → n ≤ m → length (digitsOf j n) ≤ length (digitsOf j m)
+pub digits-mono : (j n m : ℕ) → n ≤ m → length (digitsOf j n) ≤ length (digitsOf j m)
 unfolding digitsOf pick
 digits-mono zero n m h = omega arith
 digits-mono (suc j) n m h =
@@ -29,19 +29,19 @@ digits-mono (suc j) n m h =
     let q = digits-mono j (n / 10) (m / 10) (omega arith) in
     rw (t, le-ltb m 10 (omega arith)) (simp length-append (omega arith)))
 
-decimal-mono : (n m : ℕ) → n ≤ m → length (decimal n) ≤ length (decimal m)
+pub decimal-mono : (n m : ℕ) → n ≤ m → length (decimal n) ≤ length (decimal m)
 unfolding decimal
 decimal-mono n m h = digits-mono 9 n m h
 
-track-cost : (n : ℕ) → n ≤ 65535 → length (decimal n) ≤ 5
+pub track-cost : (n : ℕ) → n ≤ 65535 → length (decimal n) ≤ 5
 unfolding decimal digitsOf pick
 track-cost n h = omega (arith, decimal-mono n 65535 h)
 
-byte-cost : (n : ℕ) → n ≤ 255 → length (decimal n) ≤ 3
+pub byte-cost : (n : ℕ) → n ≤ 255 → length (decimal n) ≤ 3
 unfolding decimal digitsOf pick
 byte-cost n h = omega (arith, decimal-mono n 255 h)
 
-key-cost : (n : ℕ) → n ≤ 7 → length (decimal n) ≤ 1
+pub key-cost : (n : ℕ) → n ≤ 7 → length (decimal n) ≤ 1
 unfolding decimal digitsOf pick
 key-cost n h = omega (arith, decimal-mono n 7 h)
 
@@ -62,11 +62,11 @@ tailCost none n = 0
 tailCost oneText n = 4 + 4 * n
 tailCost sized n = 12 + 5 * n
 
-mode-cost : (m : ℕ) → length (show (columnField mode m)) ≤ 7
+pub mode-cost : (m : ℕ) → length (show (columnField mode m)) ≤ 7
 unfolding show columnField quote escapeAll escape pick inOctal
 mode-cost m = by-test (eqb m 0) (λ t. rw t (omega arith)) (λ t. rw t (omega arith))
 
-column-cost : (c : Column) (n : ℕ) → InColumn c n → length (show (columnField c n)) ≤ columnCost c
+pub column-cost : (c : Column) (n : ℕ) → InColumn c n → length (show (columnField c n)) ≤ columnCost c
 unfolding InColumn show columnField columnCost pick
 column-cost (range lo hi) n h = decimal-mono n hi (h .1)
 column-cost key b (inl h) = rw (lt-ltb b 8 h) (omega (arith, key-cost b (omega arith)))
@@ -74,22 +74,22 @@ column-cost key b (inr h) = rw (le-ltb b 8 (omega arith)) (omega (arith, key-cos
 column-cost mode m h = mode-cost m
 column-cost freeType t h = byte-cost t (omega arith)
 
-data-cost : (d : List ℕ) → Bytes d → length (further (dataFields d)) ≤ 5 * length d
+pub data-cost : (d : List ℕ) → Bytes d → length (further (dataFields d)) ≤ 5 * length d
 unfolding further dataFields show
 data-cost [] h = omega arith
 data-cost (b ∷ d) h = let q = data-cost d (h .1) in simp length-append (omega (arith, byte-cost b (omega (arith, h .0))))
 
-tail-cost : (t : Tail) (d : List ℕ) → InTail t d → length (further (tailFields t d)) ≤ tailCost t (length d)
+pub tail-cost : (t : Tail) (d : List ℕ) → InTail t d → length (further (tailFields t d)) ≤ tailCost t (length d)
 unfolding InTail further tailFields tailCost show
 tail-cost none d h = omega arith
 tail-cost oneText d h = simp length-append (omega (arith, quote-length d))
 tail-cost sized d h = simp length-append (omega (arith, decimal-length (length d), data-cost d h))
 
-one-cost : (f : Field) (fs : List Field) (a b : ℕ) → length (show f) ≤ a → length (further fs) ≤ b → length (further (f ∷ fs)) ≤ 2 + a + b
+pub one-cost : (f : Field) (fs : List Field) (a b : ℕ) → length (show f) ≤ a → length (further fs) ≤ b → length (further (f ∷ fs)) ≤ 2 + a + b
 unfolding further
 one-cost f fs a b h k = simp length-append (omega arith)
 
-columns-cost : (cs : List Column) (t : Tail) (ns d : List ℕ) → InColumns cs ns → InTail t d
+pub columns-cost : (cs : List Column) (t : Tail) (ns d : List ℕ) → InColumns cs ns → InTail t d
     → length (further (fieldsOf cs t ns d)) ≤ columnsCost cs + tailCost t (length d)
 unfolding InColumns fieldsOf columnsCost
 columns-cost [] t [] d h g = let q = tail-cost t d g in omega arith

@@ -24,13 +24,13 @@ unfoldable pub runRecords : List Record → State → ℕ → Outcome Piece
 runRecords [] s n = ended s n
 runRecords (r ∷ rs) s n = advance (step s r) n (λ t. runRecords rs t (suc n))
 
-advance-eq : {m : Result State} {s : State} (n : ℕ) (k : State → Outcome Piece) → m ≡ good s → advance m n k ≡ k s
+pub advance-eq : {m : Result State} {s : State} (n : ℕ) (k : State → Outcome Piece) → m ≡ good s → advance m n k ≡ k s
 unfolding advance
 advance-eq n k e = ap (λ x. advance x n k) e
 
 -- ---- the events of a track
 
-event-step : (h : Header) (ts : List (List Event)) (es : List Event) (prev : ℕ) (e : Event) → Layable prev e
+pub event-step : (h : Header) (ts : List (List Event)) (es : List Event) (prev : ℕ) (e : Event) → Layable prev e
     → step (inside h ts es prev) (eventRecord (suc (length ts)) e) ≡ good (afterEvent (isEnd (e .kind)) h ts es e)
 unfolding step stepOn eventRecord takeEvent
 event-step h ts es prev e l =
@@ -60,11 +60,11 @@ module _ (h : Header) (ts : List (List Event)) (rest : List Record) (x : Outcome
 
 -- ---- the tracks
 
-start-step : (h : Header) (ts : List (List Event)) → length ts < h .count → step (between h ts) (mark start-track (suc (length ts))) ≡ good (inside h ts [] 0)
+pub start-step : (h : Header) (ts : List (List Event)) → length ts < h .count → step (between h ts) (mark start-track (suc (length ts))) ≡ good (inside h ts [] 0)
 unfolding step stepOn takeStart
 start-step h ts l = test-eq 26 _ (ap₂ _&&_ (lt-ltb (length ts) (h .count) l) (ap₂ _&&_ (eq-eqb (suc (length ts)) _ refl) refl))
 
-tracks-run : (h : Header) (ts us : List (List Event)) (rest : List Record) (x : Outcome Piece) (n : ℕ) → LayableTracks us → length ts + length us ≤ h .count
+pub tracks-run : (h : Header) (ts us : List (List Event)) (rest : List Record) (x : Outcome Piece) (n : ℕ) → LayableTracks us → length ts + length us ≤ h .count
     → ((n : ℕ) → runRecords rest (between h (ts ++ us)) n ≡ x)
     → runRecords (trackRecords (suc (length ts)) us ++ rest) (between h ts) n ≡ x
 unfolding LayableTracks trackRecords runRecords
@@ -80,18 +80,18 @@ tracks-run h ts (t ∷ us) rest x n l c k =
 
 -- ---- the piece
 
-abbrev headOf : Piece → Header
+abbrev pub headOf : Piece → Header
 headOf p = record { format = p .format; count = length (p .tracks); division = p .division }
 
-header-step : (p : Piece) → step first (headerRecord p) ≡ good (between (headOf p) [])
+pub header-step : (p : Piece) → step first (headerRecord p) ≡ good (between (headOf p) [])
 unfolding step stepOn takeHeader headerRecord test
 header-step p = refl
 
-end-step : (p : Piece) → step (between (headOf p) (p .tracks)) (mark end-of-file 0) ≡ good (finished p)
+pub end-step : (p : Piece) → step (between (headOf p) (p .tracks)) (mark end-of-file 0) ≡ good (finished p)
 unfolding step stepOn takeEnd
 end-step p = test-eq 26 _ (ap₂ _&&_ (eq-eqb (length (p .tracks)) _ refl) refl)
 
-end-run : (p : Piece) (n : ℕ) → runRecords (mark end-of-file 0 ∷ []) (between (headOf p) (p .tracks)) n ≡ ok p []
+pub end-run : (p : Piece) (n : ℕ) → runRecords (mark end-of-file 0 ∷ []) (between (headOf p) (p .tracks)) n ≡ ok p []
 unfolding runRecords ended
 end-run p n = advance-eq n _ (end-step p)
 

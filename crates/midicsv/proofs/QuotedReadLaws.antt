@@ -21,29 +21,29 @@ push-eq c e = ap (push c) e
 
 -- ---- one byte
 
-octal-is : (d : ℕ) → d < 8 → isOctal (48 + d) ≡ true
+pub octal-is : (d : ℕ) → d < 8 → isOctal (48 + d) ≡ true
 unfolding isOctal
 octal-is d h = rw (le-leb 48 (48 + d) (omega arith), le-leb (48 + d) 55 (omega arith))
 
-slash-first : (l : List ℕ) → readQuoted (92 ∷ l) plain ≡ readQuoted l aSlash
+pub slash-first : (l : List ℕ) → readQuoted (92 ∷ l) plain ≡ readQuoted l aSlash
 unfolding readQuoted pick
 slash-first l = refl
 
-first-digit : (d : ℕ) (l : List ℕ) → d < 4 → readQuoted ((48 + d) ∷ l) aSlash ≡ readQuoted l (octal1 d)
+pub first-digit : (d : ℕ) (l : List ℕ) → d < 4 → readQuoted ((48 + d) ∷ l) aSlash ≡ readQuoted l (octal1 d)
 unfolding readQuoted
 first-digit d l h =
     let both : (isOctal (48 + d) && leb (48 + d) 51) ≡ true = rw (octal-is d (omega arith), le-leb (48 + d) 51 (omega arith)) in
     pick-false _ _ (ne-eqb (48 + d) 92 (λ e. omega arith)) ∙ check-eq 22 0 _ both ∙ ap (λ n. readQuoted l (octal1 n)) (omega arith)
 
-second-digit : (n d : ℕ) (l : List ℕ) → d < 8 → readQuoted ((48 + d) ∷ l) (octal1 n) ≡ readQuoted l (octal2 (n * 8 + d))
+pub second-digit : (n d : ℕ) (l : List ℕ) → d < 8 → readQuoted ((48 + d) ∷ l) (octal1 n) ≡ readQuoted l (octal2 (n * 8 + d))
 unfolding readQuoted
 second-digit n d l h = check-eq 22 0 _ (octal-is d h) ∙ ap (λ m. readQuoted l (octal2 m)) (omega arith)
 
-third-digit : (n d : ℕ) (l : List ℕ) → d < 8 → readQuoted ((48 + d) ∷ l) (octal2 n) ≡ push (n * 8 + d) (readQuoted l plain)
+pub third-digit : (n d : ℕ) (l : List ℕ) → d < 8 → readQuoted ((48 + d) ∷ l) (octal2 n) ≡ push (n * 8 + d) (readQuoted l plain)
 unfolding readQuoted
 third-digit n d l h = check-eq 22 0 _ (octal-is d h) ∙ ap (λ m. push m (readQuoted l plain)) (omega arith)
 
-octal-read : (c : ℕ) (l : List ℕ) → c < 256 → readQuoted (92 ∷ (48 + c / 64) ∷ (48 + c / 8 % 8) ∷ (48 + c % 8) ∷ l) plain ≡ push c (readQuoted l plain)
+pub octal-read : (c : ℕ) (l : List ℕ) → c < 256 → readQuoted (92 ∷ (48 + c / 64) ∷ (48 + c / 8 % 8) ∷ (48 + c % 8) ∷ l) plain ≡ push c (readQuoted l plain)
 octal-read c l h =
     slash-first ((48 + c / 64) ∷ (48 + c / 8 % 8) ∷ (48 + c % 8) ∷ l)
     ∙ first-digit (c / 64) ((48 + c / 8 % 8) ∷ (48 + c % 8) ∷ l) (omega arith)
@@ -51,25 +51,25 @@ octal-read c l h =
     ∙ third-digit (c / 64 * 8 + c / 8 % 8) (c % 8) l (omega arith)
     ∙ ap (λ n. push n (readQuoted l plain)) (omega arith)
 
-two-quotes : (l : List ℕ) → readQuoted (34 ∷ 34 ∷ l) plain ≡ push 34 (readQuoted l plain)
+pub two-quotes : (l : List ℕ) → readQuoted (34 ∷ 34 ∷ l) plain ≡ push 34 (readQuoted l plain)
 unfolding readQuoted pick
 two-quotes l = refl
 
-two-slashes : (l : List ℕ) → readQuoted (92 ∷ 92 ∷ l) plain ≡ push 92 (readQuoted l plain)
+pub two-slashes : (l : List ℕ) → readQuoted (92 ∷ 92 ∷ l) plain ≡ push 92 (readQuoted l plain)
 unfolding readQuoted pick
 two-slashes l = refl
 
 -- a byte that stands is no control byte
-high : (c : ℕ) → inOctal c ≡ false → 32 ≤ c
+pub high : (c : ℕ) → inOctal c ≡ false → 32 ≤ c
 unfolding inOctal
 high c e =
     by-test (ltb c 32) (λ t. absurd (false≢true (sym e ∙ ap (λ z. z || (leb 127 c && leb c 160)) t))) (λ t. ltb-false c 32 t)
 
-stands : (c : ℕ) (l : List ℕ) → eqb c 34 ≡ false → eqb c 92 ≡ false → inOctal c ≡ false → readQuoted (c ∷ l) plain ≡ push c (readQuoted l plain)
+pub stands : (c : ℕ) (l : List ℕ) → eqb c 34 ≡ false → eqb c 92 ≡ false → inOctal c ≡ false → readQuoted (c ∷ l) plain ≡ push c (readQuoted l plain)
 unfolding readQuoted
 stands c l n1 n2 n3 = let h = high c n3 in pick-false _ _ n1 ∙ pick-false _ _ n2 ∙ pick-false _ _ (ne-eqb c 13 (λ e. omega arith))
 
-escape-read : (c : ℕ) (l : List ℕ) → c < 256 → readQuoted (escape c ++ l) plain ≡ push c (readQuoted l plain)
+pub escape-read : (c : ℕ) (l : List ℕ) → c < 256 → readQuoted (escape c ++ l) plain ≡ push c (readQuoted l plain)
 unfolding escape pick
 escape-read c l h =
     by-test (eqb c 34) (λ t. rw (t, eqb-true c 34 t) (two-quotes l)) (λ n1.
@@ -83,7 +83,7 @@ abbrev pub NoQuote : List ℕ → Type 0
 NoQuote [] = Unit {0}
 NoQuote (c ∷ l) = eqb c 34 ≡ false
 
-closing : (r : List ℕ) → NoQuote r → readQuoted (34 ∷ r) plain ≡ ok [] r
+pub closing : (r : List ℕ) → NoQuote r → readQuoted (34 ∷ r) plain ≡ ok [] r
 unfolding readQuoted
 closing [] h = pick-true _ _ refl
 closing (c ∷ l) h = pick-true _ _ refl ∙ pick-false _ _ h
@@ -96,14 +96,14 @@ quoted-read (c ∷ d) r b h =
 
 -- ---- no control bytes
 
-escape-printable : (c : ℕ) → All Printable (escape c)
+pub escape-printable : (c : ℕ) → All Printable (escape c)
 unfolding escape pick
 escape-printable c =
     by-test (eqb c 34) (λ t. rw t (omega arith)) (λ n1.
     by-test (eqb c 92) (λ t. rw (n1, t) (omega arith)) (λ n2.
     by-test (inOctal c) (λ t. rw (n1, n2, t) (omega arith)) (λ n3. rw (n1, n2, n3) (high c n3, tt))))
 
-escapes-printable : (d : List ℕ) → All Printable (escapeAll d)
+pub escapes-printable : (d : List ℕ) → All Printable (escapeAll d)
 unfolding escapeAll
 escapes-printable [] = tt
 escapes-printable (c ∷ d) = all-append Printable (escape c) (escapeAll d) (escape-printable c) (escapes-printable d)

@@ -29,12 +29,12 @@ pub record Sound (r : Record) : Type 0 where
   pub small : length (r .values .body) ≤ 4294967295
   pub together : together (r .name) (r .values .columns) ≡ true
 
-abbrev recordFields : Record → List Field
+abbrev pub recordFields : Record → List Field
 recordFields r =
     num (r .track) ∷ num (r .time) ∷ name (spelled (r .name))
     ∷ fieldsOf (shape (r .name) .columns) (shape (r .name) .tail) (r .values .columns) (r .values .body)
 
-record-read : (r : Record) → Sound r → recordOf (recordFields r) ≡ good r
+pub record-read : (r : Record) → Sound r → recordOf (recordFields r) ≡ good r
 unfolding recordOf withValues
 record-read r s =
     next-eq _ (s .known .2)
@@ -44,7 +44,7 @@ record-read r s =
     ∙ next-eq _ (columns-read (shape (r .name) .columns) (shape (r .name) .tail) (r .values .columns) (r .values .body) (s .columns) (s .tail))
     ∙ test-eq 25 _ (s .together)
 
-fields-good : (r : Record) → Sound r → AllGood (recordFields r)
+pub fields-good : (r : Record) → Sound r → AllGood (recordFields r)
 unfolding Good
 fields-good r s =
     (omega (arith, s .track), (s .time, ((s .known .0, s .known .1), columns-good (shape (r .name) .columns) (shape (r .name) .tail) (r .values .columns) (r .values .body) (s .columns) (s .tail) (s .small))))

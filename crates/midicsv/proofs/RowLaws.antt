@@ -32,7 +32,7 @@ pub record Rowed (k : Kind) : Type 0 where
   pub columns : InColumns (eventShape (nameOf k) .columns) (valuesOf k .columns)
   pub tail : InTail (eventShape (nameOf k) .tail) (valuesOf k .body)
 
-key-in : (k : Key) → KeyFits k → (keyByte k < 8) ⊎ ((249 ≤ keyByte k) × (keyByte k < 256))
+pub key-in : (k : Key) → KeyFits k → (keyByte k < 8) ⊎ ((249 ≤ keyByte k) × (keyByte k < 256))
 unfolding KeyFits keyByte
 key-in (sharps n) h = inl (omega arith)
 key-in (flats n) h = inr (omega arith)

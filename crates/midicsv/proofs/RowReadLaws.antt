@@ -22,13 +22,13 @@ use Rattle.midicsv.proofs.FieldReadLaws.{Good, AllGood}
 
 -- ---- a column
 
-mode-read : (m : ℕ) → m ≤ 1 → readColumn mode (columnField mode m) ≡ good m
+pub mode-read : (m : ℕ) → m ≤ 1 → readColumn mode (columnField mode m) ≡ good m
 unfolding readColumn columnField pick sameBytes
 mode-read zero h = refl
 mode-read (suc zero) h = refl
 mode-read (suc (suc m)) h = absurd (omega arith)
 
-mode-good : (m : ℕ) → m ≤ 1 → Good (columnField mode m)
+pub mode-good : (m : ℕ) → m ≤ 1 → Good (columnField mode m)
 unfolding Good columnField pick
 mode-good zero h = omega arith
 mode-good (suc zero) h = omega arith
@@ -38,11 +38,11 @@ pub number-in : (lo hi n : ℕ) → lo ≤ n → n ≤ hi → readColumn (range 
 unfolding readColumn
 number-in lo hi n h k = test-eq 25 _ (ap₂ _&&_ (le-leb lo n h) (le-leb n hi k))
 
-free-is : (k : MetaKind) → k ≡ unknownKind → isFree k ≡ true
+pub free-is : (k : MetaKind) → k ≡ unknownKind → isFree k ≡ true
 unfolding isFree
 free-is k e = ap isFree e
 
-column-read : (c : Column) (n : ℕ) → InColumn c n → readColumn c (columnField c n) ≡ good n
+pub column-read : (c : Column) (n : ℕ) → InColumn c n → readColumn c (columnField c n) ≡ good n
 unfolding InColumn readColumn columnField
 column-read (range lo hi) n h = number-in lo hi n (h .0) (h .1)
 column-read key b (inl h) = rw (pick-true (num b) (minus (256 - b)) (lt-ltb b 8 h)) (test-eq 25 _ (le-leb b 7 (omega arith)))
@@ -52,7 +52,7 @@ column-read key b (inr h) =
 column-read mode m h = mode-read m h
 column-read freeType t h = test-eq 25 _ (ap₂ _&&_ (le-leb t 127 (h .0)) (free-is (kindOf t) (h .1)))
 
-column-good : (c : Column) (n : ℕ) → InColumn c n → Good (columnField c n)
+pub column-good : (c : Column) (n : ℕ) → InColumn c n → Good (columnField c n)
 unfolding InColumn columnField Good
 column-good (range lo hi) n h = h .2
 column-good key b (inl h) = rw (pick-true (num b) (minus (256 - b)) (lt-ltb b 8 h)) (omega arith)
@@ -62,23 +62,23 @@ column-good freeType t h = omega arith
 
 -- ---- the tail
 
-data-read : (d : List ℕ) → Bytes d → readBytes (dataFields d) ≡ good d
+pub data-read : (d : List ℕ) → Bytes d → readBytes (dataFields d) ≡ good d
 unfolding readBytes dataFields
 data-read [] h = refl
 data-read (b ∷ d) h = next-eq _ (number-in 0 255 b (omega arith) (omega (arith, h .0))) ∙ next-eq _ (data-read d (h .1))
 
-data-good : (d : List ℕ) → Bytes d → AllGood (dataFields d)
+pub data-good : (d : List ℕ) → Bytes d → AllGood (dataFields d)
 unfolding dataFields Good
 data-good [] h = tt
 data-good (b ∷ d) h = (omega arith, data-good d (h .1))
 
-tail-read : (t : Tail) (d : List ℕ) → InTail t d → readTail t (tailFields t d) ≡ good d
+pub tail-read : (t : Tail) (d : List ℕ) → InTail t d → readTail t (tailFields t d) ≡ good d
 unfolding InTail readTail tailFields readText
 tail-read none d h = ap good (sym h)
 tail-read oneText d h = refl
 tail-read sized d h = data-read d h
 
-tail-good : (t : Tail) (d : List ℕ) → InTail t d → length d ≤ 4294967295 → AllGood (tailFields t d)
+pub tail-good : (t : Tail) (d : List ℕ) → InTail t d → length d ≤ 4294967295 → AllGood (tailFields t d)
 unfolding InTail tailFields Good
 tail-good none d h s = tt
 tail-good oneText d h s = (h, tt)
@@ -102,26 +102,26 @@ columns-good (c ∷ cs) t (n ∷ ns) d h g s = (column-good c n (h .0), columns-
 
 -- ---- the number of fields
 
-data-fields : (d : List ℕ) → length (dataFields d) ≡ length d
+pub data-fields : (d : List ℕ) → length (dataFields d) ≡ length d
 unfolding dataFields
 data-fields [] = refl
 data-fields (b ∷ d) = ap suc (data-fields d)
 
-row-fields : (cs : List Column) (t : Tail) (ns d : List ℕ) → InColumns cs ns → length (fieldsOf cs t ns d) ≡ length cs + length (tailFields t d)
+pub row-fields : (cs : List Column) (t : Tail) (ns d : List ℕ) → InColumns cs ns → length (fieldsOf cs t ns d) ≡ length cs + length (tailFields t d)
 unfolding InColumns fieldsOf
 row-fields [] t [] d h = omega arith
 row-fields [] t (n ∷ ns) d h = absurd h
 row-fields (c ∷ cs) t [] d h = absurd h
 row-fields (c ∷ cs) t (n ∷ ns) d h = let e = row-fields cs t ns d (h .1) in omega arith
 
-length-field : (cs : List Column) (ns d : List ℕ) → InColumns cs ns → getD (fieldsOf cs sized ns d) (length cs) (num 0) ≡ num (length d)
+pub length-field : (cs : List Column) (ns d : List ℕ) → InColumns cs ns → getD (fieldsOf cs sized ns d) (length cs) (num 0) ≡ num (length d)
 unfolding InColumns fieldsOf tailFields
 length-field [] [] d h = refl
 length-field [] (n ∷ ns) d h = absurd h
 length-field (c ∷ cs) [] d h = absurd h
 length-field (c ∷ cs) (n ∷ ns) d h = length-field cs ns d (h .1)
 
-length-known : (cs : List Column) (ns d : List ℕ) → InColumns cs ns → sizeOf (getD (fieldsOf cs sized ns d) (length cs) (num 0)) ≡ good (length d)
+pub length-known : (cs : List Column) (ns d : List ℕ) → InColumns cs ns → sizeOf (getD (fieldsOf cs sized ns d) (length cs) (num 0)) ≡ good (length d)
 unfolding sizeOf
 length-known cs ns d h = ap sizeOf (length-field cs ns d h)
 

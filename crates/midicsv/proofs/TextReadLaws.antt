@@ -35,37 +35,37 @@ use Rattle.midicsv.proofs.OrderLaws.{runRecords, piece-run}
 
 -- ---- the lines of records that are read back
 
-unfoldable AllSound : List Record → Type 0
+unfoldable pub AllSound : List Record → Type 0
 AllSound [] = Unit {0}
 AllSound (r ∷ rs) = Sound r × AllSound rs
 
-kept : (r : Record) → r .track ≤ 65535 → passedOver (recordLine r) ≡ false
+pub kept : (r : Record) → r .track ≤ 65535 → passedOver (recordLine r) ≡ false
 unfolding recordLine lineOf show
 kept r h = not-passed (decimal (r .track)) _ (decimal-digits (r .track) (omega arith))
 
-line-told : (r : Record) → Sound r → All Printable (recordLine r) → tellLine (recordLine r) ≡ told (good r)
+pub line-told : (r : Record) → Sound r → All Printable (recordLine r) → tellLine (recordLine r) ≡ told (good r)
 unfolding tellLine framed
 line-told r a pr = rw (trimmed-same (recordLine r) pr) (pick-false _ _ (kept r (a .track)) ∙ ap told (line-back r a))
 
-line-step : (s : State) (r : Record) → tellLine (recordLine r) ≡ told (good r) → stepTold s (tellLine (recordLine r)) ≡ step s r
+pub line-step : (s : State) (r : Record) → tellLine (recordLine r) ≡ told (good r) → stepTold s (tellLine (recordLine r)) ≡ step s r
 unfolding stepTold next
 line-step s r e = ap (stepTold s) e
 
-advance-same : (m : Result State) (n : ℕ) (f g : State → Outcome Piece) → ((s : State) → f s ≡ g s) → advance m n f ≡ advance m n g
+pub advance-same : (m : Result State) (n : ℕ) (f g : State → Outcome Piece) → ((s : State) → f s ≡ g s) → advance m n f ≡ advance m n g
 unfolding advance
 advance-same (good s) n f g h = h s
 advance-same (bad k) n f g h = refl
 
-no-lines : (s : State) (n : ℕ) → runLines tellLine (linesOf []) s n ≡ ended s n
+pub no-lines : (s : State) (n : ℕ) → runLines tellLine (linesOf []) s n ≡ ended s n
 unfolding runLines linesOf
 no-lines s n = refl
 
-one-line : (ls : List (List ℕ)) (r : Record) (s : State) (n : ℕ) → tellLine (recordLine r) ≡ told (good r)
+pub one-line : (ls : List (List ℕ)) (r : Record) (s : State) (n : ℕ) → tellLine (recordLine r) ≡ told (good r)
     → runLines tellLine (recordLine r ∷ ls) s n ≡ advance (step s r) n (λ t. runLines tellLine ls t (suc n))
 unfolding runLines
 one-line ls r s n e = ap (λ m. advance m n (λ t. runLines tellLine ls t (suc n))) (line-step s r e)
 
-lines-run : (rs : List Record) (s : State) (n : ℕ) → AllSound rs → runLines tellLine (linesOf (recordsText rs)) s n ≡ runRecords rs s n
+pub lines-run : (rs : List Record) (s : State) (n : ℕ) → AllSound rs → runLines tellLine (linesOf (recordsText rs)) s n ≡ runRecords rs s n
 unfolding AllSound recordsText runRecords
 lines-run [] s n a = no-lines s n
 lines-run (r ∷ rs) s n a =
@@ -76,12 +76,12 @@ lines-run (r ∷ rs) s n a =
 
 -- ---- the records of a piece are read back
 
-sound-append : (rs qs : List Record) → AllSound rs → AllSound qs → AllSound (rs ++ qs)
+pub sound-append : (rs qs : List Record) → AllSound rs → AllSound qs → AllSound (rs ++ qs)
 unfolding AllSound
 sound-append [] qs a b = b
 sound-append (r ∷ rs) qs a b = (a .0, sound-append rs qs (a .1) b)
 
-event-sound : (track prev : ℕ) (e : Event) → track ≤ 65535 → Layable prev e → Sound (eventRecord track e)
+pub event-sound : (track prev : ℕ) (e : Event) → track ≤ 65535 → Layable prev e → Sound (eventRecord track e)
 unfolding eventRecord together shape
 event-sound track prev e h l =
     let r = rowed (e .kind) (l .lawful .fits) in
@@ -95,34 +95,34 @@ event-sound track prev e h l =
       together = refl;
     }
 
-rest-sound : (b : Bool) (track : ℕ) (es : List Event) (P : Type 0) → Ends b es P → (P → AllSound (eventRecords track es)) → AllSound (eventRecords track es)
+pub rest-sound : (b : Bool) (track : ℕ) (es : List Event) (P : Type 0) → Ends b es P → (P → AllSound (eventRecords track es)) → AllSound (eventRecords track es)
 unfolding Ends eventRecords AllSound
 rest-sound true track es P a f = rw a tt
 rest-sound false track es P a f = f a
 
-events-sound : (track prev : ℕ) (es : List Event) → track ≤ 65535 → LayableEvents prev es → AllSound (eventRecords track es)
+pub events-sound : (track prev : ℕ) (es : List Event) → track ≤ 65535 → LayableEvents prev es → AllSound (eventRecords track es)
 unfolding LayableEvents eventRecords AllSound
 events-sound track prev [] h l = tt
 events-sound track prev (e ∷ es) h l =
     (event-sound track prev e h (l .0), rest-sound (isEnd (e .kind)) track es _ (l .1) (λ q. events-sound track (e .time) es h q))
 
-start-sound : (n : ℕ) → n ≤ 65535 → Sound (mark start-track n)
+pub start-sound : (n : ℕ) → n ≤ 65535 → Sound (mark start-track n)
 unfolding shape together InColumns InTail
 start-sound n h =
     record { track = h; time = omega arith; known = frames-known .start; columns = tt; tail = refl; small = omega arith; together = refl }
 
-end-sound : Sound (mark end-of-file 0)
+pub end-sound : Sound (mark end-of-file 0)
 unfolding shape together InColumns InTail
 end-sound =
     record { track = omega arith; time = omega arith; known = frames-known .last; columns = tt; tail = refl; small = omega arith; together = refl }
 
-tracks-sound : (n : ℕ) (ts : List (List Event)) → n + length ts ≤ 65536 → LayableTracks ts → AllSound (trackRecords n ts)
+pub tracks-sound : (n : ℕ) (ts : List (List Event)) → n + length ts ≤ 65536 → LayableTracks ts → AllSound (trackRecords n ts)
 unfolding LayableTracks trackRecords AllSound
 tracks-sound n [] h l = tt
 tracks-sound n (t ∷ ts) h l =
     (start-sound n (omega arith), sound-append (eventRecords n t) (trackRecords (suc n) ts) (events-sound n 0 t (omega arith) (l .0)) (tracks-sound (suc n) ts (omega arith) (l .1)))
 
-header-sound : (p : Piece) → LawfulPiece p → Sound (headerRecord p)
+pub header-sound : (p : Piece) → LawfulPiece p → Sound (headerRecord p)
 unfolding headerRecord shape together InColumns InColumn InTail LawfulDivision
 header-sound p l =
     record {
@@ -135,7 +135,7 @@ header-sound p l =
       together = fit-yes (p .format) (length (p .tracks)) (l .single);
     }
 
-piece-sound : (p : Piece) → LawfulPiece p → LayableTracks (p .tracks) → AllSound (pieceRecords p)
+pub piece-sound : (p : Piece) → LawfulPiece p → LayableTracks (p .tracks) → AllSound (pieceRecords p)
 unfolding pieceRecords AllSound
 piece-sound p l ls =
     (header-sound p l, sound-append (trackRecords 1 (p .tracks)) _ (tracks-sound 1 (p .tracks) (omega (arith, l .few)) ls) (end-sound, tt))

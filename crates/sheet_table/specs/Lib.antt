@@ -1,0 +1,4 @@
+pub mod Cut
+pub mod Table
+pub mod TableAnswer
+pub mod TableReadings

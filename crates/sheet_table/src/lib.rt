@@ -1,0 +1,1 @@
+// Tables that a spreadsheet saved, and the texts that they are: definitions and laws, no code.
