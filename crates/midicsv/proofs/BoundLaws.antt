@@ -1,6 +1,6 @@
--- "The text of an accepted file of n bytes has at most 25·n bytes."
+-- "The text of an accepted file of n bytes has at most 25·n bytes"; its sheet form at most 23·n.
 use mathlib.Core.Path.{_≡_, refl, sym, ap, _∙_}
-use Prim.Native.Nat.{ℕ, zero, suc, _+_, _-_, _*_, _≤_}
+use Prim.Native.Nat.{ℕ, zero, suc, _+_, _-_, _*_, _≤_, zero-le}
 use mathlib.Core.Bool.{Bool, true, false}
 use mathlib.Core.List.{List, [], _∷_, _++_, append-assoc}
 use native.Mathlib.Omega.{arith}
@@ -17,11 +17,12 @@ use Rattle.smf.specs.Piece.{Piece, Ends, LawfulEvents, LawfulTracks, LawfulDivi
 use Rattle.smf.specs.Spelling.{PermittedEvents, PermittedTracks, PermittedPiece}
 use Rattle.smf.specs.Layout.{layEvents, layTrack, layTracks, layHeader, layDivision, layPiece, LaidOut}
 use Rattle.midicsv.specs.Field.{decimal, digitsOf}
+use Rattle.midicsv.specs.Show.{Form, asText, asSheet}
 use Rattle.midicsv.specs.Table.{words, start-track, end-of-file, event, eventSpelled, spelled, eventShape, shape}
 use Rattle.midicsv.specs.Record.{Record, recordLine, nameOf, valuesOf}
-use Rattle.midicsv.specs.Text.{mark, eventRecord, eventRecords, trackRecords, headerRecord, pieceRecords, recordsText, textOf}
+use Rattle.midicsv.specs.Text.{mark, eventRecord, eventRecords, trackRecords, headerRecord, pieceRecords, recordsText, writtenAs}
 use Rattle.midicsv.proofs.RowLaws.{InColumn, InColumns, InTail, rowed}
-use Rattle.midicsv.proofs.LineBoundLaws.{columnCost, columnsCost, tailCost, cost, record-cost}
+use Rattle.midicsv.proofs.LineBoundLaws.{gapCost, columnCost, columnsCost, tailCost, cost, record-cost}
 
 -- ---- each kind of event
 
@@ -57,102 +58,155 @@ text-cost (suc (suc (suc (suc (suc (suc zero)))))) h k = omega arith
 text-cost (suc (suc (suc (suc (suc (suc (suc zero))))))) h k = omega arith
 text-cost (suc (suc (suc (suc (suc (suc (suc (suc t)))))))) h k = absurd (omega arith)
 
-pub enough : (k : Kind) → Fits k → cost (event (nameOf k)) (length (valuesOf k .body)) ≤ 25 * fewest (frame k)
-unfolding cost nameOf valuesOf frame fewest spelled eventSpelled shape eventShape columnsCost columnCost tailCost decimal digitsOf pick Fits bigEndian bytesOnto
-enough (noteOff c k v) h = omega arith
-enough (noteOn c k v) h = omega arith
-enough (polyAftertouch c k v) h = omega arith
-enough (control c k v) h = omega arith
-enough (program c p) h = omega arith
-enough (channelAftertouch c v) h = omega arith
-enough (pitchBend c v) h = omega arith
-enough (systemExclusive d) h = omega arith
-enough (systemExclusivePacket d) h = omega arith
-enough (sequenceNumber n) h = omega arith
-enough (text t d) h = omega (arith, text-cost t (h .0) (h .1))
-enough (channelPrefix n) h = omega arith
-enough (midiPort n) h = omega arith
-enough endTrack h = omega arith
-enough (tempo n) h = omega arith
-enough (smpteOffset a m s f u) h = omega arith
-enough (timeSignature n d c b) h = omega arith
-enough (keySignature k m) h = omega arith
-enough (sequencerSpecific d) h = omega arith
-enough (unknownMeta t d) h = omega arith
+-- the most bytes that are written for n bytes of a file
+unfoldable pub most : Form → ℕ → ℕ
+most asText n = 25 * n
+most asSheet n = 23 * n
 
-pub line-bound : (track : ℕ) (e : Event) → track ≤ 65535 → Fits (e .kind) → length (recordLine (eventRecord track e)) + 1 ≤ cost (event (nameOf (e .kind))) (length (valuesOf (e .kind) .body))
+pub sum-bound : (w : Form) {x y : ℕ} (a b : ℕ) → x ≤ most w a → y ≤ most w b → x + y ≤ most w (a + b)
+unfolding most
+sum-bound asText a b h k = omega arith
+sum-bound asSheet a b h k = omega arith
+
+pub more-bound : (w : Form) {x a b : ℕ} → x ≤ most w a → a ≤ b → x ≤ most w b
+unfolding most
+more-bound asText h k = omega arith
+more-bound asSheet h k = omega arith
+
+-- what is short beside 7 bytes
+short-bound : (w : Form) {x : ℕ} → x ≤ 100 → x ≤ most w 7
+unfolding most
+short-bound asText h = omega arith
+short-bound asSheet h = omega arith
+
+enough : (w : Form) (k : Kind) → Fits k → cost w (event (nameOf k)) (length (valuesOf k .body)) ≤ most w (fewest (frame k))
+unfolding most cost gapCost nameOf valuesOf frame fewest spelled eventSpelled shape eventShape columnsCost columnCost tailCost decimal digitsOf pick Fits bigEndian bytesOnto
+enough asText (noteOff c k v) h = omega arith
+enough asText (noteOn c k v) h = omega arith
+enough asText (polyAftertouch c k v) h = omega arith
+enough asText (control c k v) h = omega arith
+enough asText (program c p) h = omega arith
+enough asText (channelAftertouch c v) h = omega arith
+enough asText (pitchBend c v) h = omega arith
+enough asText (systemExclusive d) h = omega arith
+enough asText (systemExclusivePacket d) h = omega arith
+enough asText (sequenceNumber n) h = omega arith
+enough asText (text t d) h = omega (arith, text-cost t (h .0) (h .1))
+enough asText (channelPrefix n) h = omega arith
+enough asText (midiPort n) h = omega arith
+enough asText endTrack h = omega arith
+enough asText (tempo n) h = omega arith
+enough asText (smpteOffset a m s f u) h = omega arith
+enough asText (timeSignature n d c b) h = omega arith
+enough asText (keySignature k m) h = omega arith
+enough asText (sequencerSpecific d) h = omega arith
+enough asText (unknownMeta t d) h = omega arith
+enough asSheet (noteOff c k v) h = omega arith
+enough asSheet (noteOn c k v) h = omega arith
+enough asSheet (polyAftertouch c k v) h = omega arith
+enough asSheet (control c k v) h = omega arith
+enough asSheet (program c p) h = omega arith
+enough asSheet (channelAftertouch c v) h = omega arith
+enough asSheet (pitchBend c v) h = omega arith
+enough asSheet (systemExclusive d) h = omega arith
+enough asSheet (systemExclusivePacket d) h = omega arith
+enough asSheet (sequenceNumber n) h = omega arith
+enough asSheet (text t d) h = omega (arith, text-cost t (h .0) (h .1))
+enough asSheet (channelPrefix n) h = omega arith
+enough asSheet (midiPort n) h = omega arith
+enough asSheet endTrack h = omega arith
+enough asSheet (tempo n) h = omega arith
+enough asSheet (smpteOffset a m s f u) h = omega arith
+enough asSheet (timeSignature n d c b) h = omega arith
+enough asSheet (keySignature k m) h = omega arith
+enough asSheet (sequencerSpecific d) h = omega arith
+enough asSheet (unknownMeta t d) h = omega arith
+
+line-bound : (w : Form) (track : ℕ) (e : Event) → track ≤ 65535 → Fits (e .kind) → length (recordLine w (eventRecord track e)) + 1 ≤ cost w (event (nameOf (e .kind))) (length (valuesOf (e .kind) .body))
 unfolding eventRecord shape
-line-bound track e h f = let r = rowed (e .kind) f in record-cost (eventRecord track e) h (r .columns) (r .tail)
+line-bound w track e h f = let r = rowed (e .kind) f in record-cost w (eventRecord track e) h (r .columns) (r .tail)
 
-pub event-bound : (track prev force : ℕ) (e : Event) (s : Spelling) → track ≤ 65535 → Fits (e .kind) → Permitted prev force e s
-    → length (recordLine (eventRecord track e)) + 1 ≤ 25 * length (layEvent prev e s)
+pub event-bound : (w : Form) (track prev force : ℕ) (e : Event) (s : Spelling) → track ≤ 65535 → Fits (e .kind) → Permitted prev force e s
+    → length (recordLine w (eventRecord track e)) + 1 ≤ most w (length (layEvent prev e s))
 unfolding layEvent
-event-bound track prev force e s h f p =
-    let c = line-bound track e h f in
-    simp length-append (omega (arith, fewest-laid force (frame (e .kind)) (s .rest) (p .rest), vlq-size (s .delta) (e .time - prev), enough (e .kind) f))
+event-bound w track prev force e s h f p =
+    let c = line-bound w track e h f in
+    let g = enough w (e .kind) f in
+    more-bound w {a = fewest (frame (e .kind))} (omega (arith, c, g)) (simp length-append (omega (arith, fewest-laid force (frame (e .kind)) (s .rest) (p .rest), vlq-size (s .delta) (e .time - prev))))
 
 -- ---- a track, the tracks, a piece
 
-pub texts-append : (rs qs : List Record) → recordsText (rs ++ qs) ≡ recordsText rs ++ recordsText qs
+pub texts-append : (w : Form) (rs qs : List Record) → recordsText w (rs ++ qs) ≡ recordsText w rs ++ recordsText w qs
 unfolding recordsText
-texts-append [] qs = refl
-texts-append (r ∷ rs) qs =
-    ap (λ z. recordLine r ++ (10 ∷ z)) (texts-append rs qs) ∙ sym (append-assoc (recordLine r) (10 ∷ recordsText rs) (recordsText qs))
+texts-append w [] qs = refl
+texts-append w (r ∷ rs) qs =
+    ap (λ z. recordLine w r ++ (10 ∷ z)) (texts-append w rs qs) ∙ sym (append-assoc (recordLine w r) (10 ∷ recordsText w rs) (recordsText w qs))
 
-pub texts-length : (rs qs : List Record) → length (recordsText (rs ++ qs)) ≡ length (recordsText rs) + length (recordsText qs)
-texts-length rs qs = ap length (texts-append rs qs) ∙ length-append (recordsText rs) (recordsText qs)
+pub texts-length : (w : Form) (rs qs : List Record) → length (recordsText w (rs ++ qs)) ≡ length (recordsText w rs) + length (recordsText w qs)
+texts-length w rs qs = ap length (texts-append w rs qs) ∙ length-append (recordsText w rs) (recordsText w qs)
 
-pub last-length : (r : Record) → length (recordsText (r ∷ [])) ≡ length (recordLine r) + 1
+pub last-length : (w : Form) (r : Record) → length (recordsText w (r ∷ [])) ≡ length (recordLine w r) + 1
 unfolding recordsText
-last-length r = simp length-append (omega arith)
+last-length w r = simp length-append (omega arith)
 
 -- after End_track there is no event
-pub rest-bound : (b : Bool) (track prev : ℕ) (es : List Event) (ss : List Spelling) (P : Type 0) → Ends b es P
-    → (P → length (recordsText (eventRecords track es)) ≤ 25 * length (layEvents prev es ss)) → length (recordsText (eventRecords track es)) ≤ 25 * length (layEvents prev es ss)
+pub rest-bound : (w : Form) (b : Bool) (track prev : ℕ) (es : List Event) (ss : List Spelling) (P : Type 0) → Ends b es P
+    → (P → length (recordsText w (eventRecords track es)) ≤ most w (length (layEvents prev es ss))) → length (recordsText w (eventRecords track es)) ≤ most w (length (layEvents prev es ss))
 unfolding Ends eventRecords recordsText
-rest-bound true track prev es ss P n f = rw n (omega arith)
-rest-bound false track prev es ss P n f = f n
+rest-bound w true track prev es ss P n f = rw n (omega arith)
+rest-bound w false track prev es ss P n f = f n
 
-pub events-bound : (track prev force : ℕ) (es : List Event) (ss : List Spelling) → track ≤ 65535 → LawfulEvents prev es → PermittedEvents prev force es ss
-    → length (recordsText (eventRecords track es)) ≤ 25 * length (layEvents prev es ss)
+pub events-bound : (w : Form) (track prev force : ℕ) (es : List Event) (ss : List Spelling) → track ≤ 65535 → LawfulEvents prev es → PermittedEvents prev force es ss
+    → length (recordsText w (eventRecords track es)) ≤ most w (length (layEvents prev es ss))
 unfolding LawfulEvents PermittedEvents eventRecords recordsText layEvents
-events-bound track prev force [] ss h l p = absurd l
-events-bound track prev force (e ∷ es) [] h l p = absurd p
-events-bound track prev force (e ∷ es) (s ∷ ss) h l p =
-    let one = event-bound track prev force e s h (l .0 .fits) (p .0) in
-    let rest = rest-bound (isEnd (e .kind)) track (e .time) es ss _ (l .1) (λ q. events-bound track (e .time) (after (frame (e .kind))) es ss h q (p .1)) in
-    simp length-append (omega arith)
+events-bound w track prev force [] ss h l p = absurd l
+events-bound w track prev force (e ∷ es) [] h l p = absurd p
+events-bound w track prev force (e ∷ es) (s ∷ ss) h l p =
+    let one = event-bound w track prev force e s h (l .0 .fits) (p .0) in
+    let rest = rest-bound w (isEnd (e .kind)) track (e .time) es ss _ (l .1) (λ q. events-bound w track (e .time) (after (frame (e .kind))) es ss h q (p .1)) in
+    simp length-append (omega (arith, sum-bound w (length (layEvent prev e s)) (length (layEvents (e .time) es ss)) one rest))
 
-pub start-bound : (n : ℕ) → n ≤ 65535 → length (recordLine (mark start-track n)) + 1 ≤ 200
-unfolding cost spelled shape columnsCost tailCost InColumns InTail
-start-bound n h = omega (arith, record-cost (mark start-track n) h tt refl)
+gap-small : (w : Form) → gapCost w ≤ 2
+unfolding gapCost
+gap-small asText = omega arith
+gap-small asSheet = omega arith
 
-pub end-bound : length (recordLine (mark end-of-file 0)) + 1 ≤ 100
-unfolding cost spelled shape columnsCost tailCost InColumns InTail
-end-bound = omega (arith, record-cost (mark end-of-file 0) (omega arith) tt refl)
+start-bound : (w : Form) (n : ℕ) → n ≤ 65535 → length (recordLine w (mark start-track n)) + 1 ≤ 100
+unfolding cost gapCost spelled shape columnsCost tailCost InColumns InTail
+start-bound w n h = omega (arith, record-cost w (mark start-track n) h tt refl, gap-small w)
 
-pub header-bound : (p : Piece) → LawfulPiece p → length (recordLine (headerRecord p)) + 1 ≤ 100
-unfolding cost spelled shape columnsCost columnCost tailCost decimal digitsOf pick headerRecord InColumns InColumn InTail LawfulDivision
-header-bound p l = omega (arith, record-cost (headerRecord p) (omega arith) (omega (arith, l .format, l .some, l .few, l .division)) refl)
+end-bound : (w : Form) → length (recordLine w (mark end-of-file 0)) + 1 ≤ 100
+unfolding cost gapCost spelled shape columnsCost tailCost InColumns InTail
+end-bound w = omega (arith, record-cost w (mark end-of-file 0) (omega arith) tt refl, gap-small w)
 
-pub tracks-bound : (n : ℕ) (ts : List (List Event)) (ss : List (List Spelling)) → n + length ts ≤ 65536 → LawfulTracks ts → PermittedTracks ts ss
-    → length (recordsText (trackRecords n ts)) ≤ 25 * length (layTracks ts ss)
+pub header-bound : (w : Form) (p : Piece) → LawfulPiece p → length (recordLine w (headerRecord p)) + 1 ≤ 100
+unfolding cost gapCost spelled shape columnsCost columnCost tailCost decimal digitsOf pick headerRecord InColumns InColumn InTail LawfulDivision
+header-bound w p l = omega (arith, record-cost w (headerRecord p) (omega arith) (omega (arith, l .format, l .some, l .few, l .division)) refl, gap-small w)
+
+pub tracks-bound : (w : Form) (n : ℕ) (ts : List (List Event)) (ss : List (List Spelling)) → n + length ts ≤ 65536 → LawfulTracks ts → PermittedTracks ts ss
+    → length (recordsText w (trackRecords n ts)) ≤ most w (length (layTracks ts ss))
 unfolding LawfulTracks PermittedTracks trackRecords recordsText layTracks layTrack
-tracks-bound n [] ss h l p = omega arith
-tracks-bound n (t ∷ ts) [] h l p = absurd p
-tracks-bound n (t ∷ ts) (s ∷ ss) h l p =
-    let head = start-bound n (omega arith) in
-    let one = events-bound n 0 noStatus t s (omega arith) (l .0) (p .0) in
-    let rest = tracks-bound (suc n) ts ss (omega arith) (l .1) (p .1) in
-    simp (length-append, length-bigEndian) (omega (arith, texts-length (eventRecords n t) (trackRecords (suc n) ts)))
+tracks-bound w n [] ss h l p = zero-le
+tracks-bound w n (t ∷ ts) [] h l p = absurd p
+tracks-bound w n (t ∷ ts) (s ∷ ss) h l p =
+    let head = short-bound w (start-bound w n (omega arith)) in
+    let one = events-bound w n 0 noStatus t s (omega arith) (l .0) (p .0) in
+    let rest = tracks-bound w (suc n) ts ss (omega arith) (l .1) (p .1) in
+    let all = more-bound w {b = length (layTracks (t ∷ ts) (s ∷ ss))} (sum-bound w (7 + length (layEvents 0 t s)) (length (layTracks ts ss)) (sum-bound w 7 (length (layEvents 0 t s)) head one) rest) (simp (length-append, length-bigEndian) (omega arith)) in
+    let size = length-append (recordLine w (mark start-track n)) (10 ∷ recordsText w (eventRecords n t ++ trackRecords (suc n) ts)) in
+    omega (arith, all, size, texts-length w (eventRecords n t) (trackRecords (suc n) ts))
 
 -- of any layout of the piece, and so of any accepted file
-pub text-bound : (f : List ℕ) (p : Piece) → LaidOut f p → length (textOf p) ≤ 25 * length f
-unfolding textOf pieceRecords recordsText layPiece layHeader layDivision PermittedPiece
-text-bound f p l =
+pub written-bound : (w : Form) (f : List ℕ) (p : Piece) → LaidOut f p → length (writtenAs w p) ≤ most w (length f)
+unfolding writtenAs pieceRecords recordsText layPiece layHeader layDivision PermittedPiece
+written-bound w f p l =
     let good = l .has .lawful in
-    let a = header-bound p good in
-    let b = tracks-bound 1 (p .tracks) (l .spelling .tracks) (omega (arith, good .few)) (good .tracks) (l .has .permitted) in
-    let c = texts-length (trackRecords 1 (p .tracks)) (mark end-of-file 0 ∷ []) in
-    let d = last-length (mark end-of-file 0) in
-    rw (← l .bytes) (simp (length-append, length-bigEndian) (omega (arith, end-bound)))
+    let a = short-bound w (header-bound w p good) in
+    let b = tracks-bound w 1 (p .tracks) (l .spelling .tracks) (omega (arith, good .few)) (good .tracks) (l .has .permitted) in
+    let c = texts-length w (trackRecords 1 (p .tracks)) (mark end-of-file 0 ∷ []) in
+    let d = last-length w (mark end-of-file 0) in
+    let e : length (writtenAs w p) ≡ length (recordLine w (headerRecord p)) + suc (length (recordsText w (trackRecords 1 (p .tracks) ++ (mark end-of-file 0 ∷ [])))) = length-append (recordLine w (headerRecord p)) _ in
+    let few : length (layTracks (p .tracks) (l .spelling .tracks)) + 14 ≤ length f = rw (← l .bytes) (simp (length-append, length-bigEndian) (omega arith)) in
+    let ends = sum-bound w 7 7 a (short-bound w (end-bound w)) in
+    let all = more-bound w {b = length f} (sum-bound w 14 (length (layTracks (p .tracks) (l .spelling .tracks))) ends b) (omega (arith, few)) in
+    omega (arith, all, c, d, e)

@@ -11,8 +11,10 @@ use lib.Dec.{leb, ltb, eqb}
 use borrow.Author.Tests.{lt-ltb, le-ltb, le-leb, lt-leb, ne-eqb}
 use Rattle.event.specs.Choice.{pick}
 use Rattle.event.proofs.ChoiceLaws.{by-test}
-use Rattle.midicsv.specs.Field.{digitsOf, decimal, inOctal, escape, escapeAll, quote, num, show, joined, further}
+use Rattle.midicsv.specs.Field.{digitsOf, decimal, inOctal, escape, escapeAll, num}
+use Rattle.midicsv.specs.Show.{Form, asText, asSheet, gap, spellIn, quote, show, joined, further}
 use Rattle.midicsv.specs.Record.{dataFields}
+use Rattle.midicsv.proofs.SpellLaws.{spell-size}
 
 -- ---- decimals
 
@@ -89,9 +91,19 @@ unfolding escapeAll
 escapes-length [] = omega arith
 escapes-length (c ∷ d) = let h = escapes-length d in simp length-append (omega (arith, escape-length c))
 
-pub quote-length : (d : List ℕ) → length (quote d) ≤ 2 + 4 * length d
+spell-length : (w : Form) (d : List ℕ) → length (spellIn w d) ≤ 4 * length d
+unfolding spellIn
+spell-length asText d = escapes-length d
+spell-length asSheet d = spell-size d
+
+pub quote-length : (w : Form) (d : List ℕ) → length (quote w d) ≤ 2 + 4 * length d
 unfolding quote
-quote-length d = simp length-append (omega (arith, escapes-length d))
+quote-length w d = simp length-append (omega (arith, spell-length w d))
+
+pub gap-length : (w : Form) → length (gap w) ≤ 2
+unfolding gap
+gap-length asText = omega arith
+gap-length asSheet = omega arith
 
 -- ---- a turn of the loop over a text: what is left to write
 
@@ -114,21 +126,21 @@ text-end d i h = rw (drop-of-length-le d h) refl
 
 -- ---- a turn of the loop over data bytes
 
-abbrev pub DataLeft : List ℕ → ℕ → List ℕ
-DataLeft d i = further (dataFields (drop i d))
+abbrev pub DataLeft : Form → List ℕ → ℕ → List ℕ
+DataLeft w d i = further w (dataFields (drop i d))
 
-data-one : (b : ℕ) (d : List ℕ) → further (dataFields (b ∷ d)) ≡ joined (num b) ++ further (dataFields d)
+data-one : (w : Form) (b : ℕ) (d : List ℕ) → further w (dataFields (b ∷ d)) ≡ joined w (num b) ++ further w (dataFields d)
 unfolding further dataFields
-data-one b d = refl
+data-one w b d = refl
 
-pub data-more : (d : List ℕ) (i : ℕ) → i < length d → DataLeft d i ≡ joined (num (getD d i 0)) ++ DataLeft d (i + 1)
-data-more d i h = rw (add-one, drop-cons d i 0 h) (data-one (getD d i 0) (drop (suc i) d))
+pub data-more : (w : Form) (d : List ℕ) (i : ℕ) → i < length d → DataLeft w d i ≡ joined w (num (getD d i 0)) ++ DataLeft w d (i + 1)
+data-more w d i h = rw (add-one, drop-cons d i 0 h) (data-one w (getD d i 0) (drop (suc i) d))
 
-pub data-end : (d : List ℕ) (i : ℕ) → length d ≤ i → DataLeft d i ≡ []
+pub data-end : (w : Form) (d : List ℕ) (i : ℕ) → length d ≤ i → DataLeft w d i ≡ []
 unfolding further dataFields
-data-end d i h = rw (drop-of-length-le d h) refl
+data-end w d i h = rw (drop-of-length-le d h) refl
 
-pub data-length : (d : List ℕ) → length (further (dataFields d)) ≤ 12 * length d
+pub data-length : (w : Form) (d : List ℕ) → length (further w (dataFields d)) ≤ 12 * length d
 unfolding further dataFields show
-data-length [] = omega arith
-data-length (b ∷ d) = let h = data-length d in simp length-append (omega (arith, decimal-length b))
+data-length w [] = omega arith
+data-length w (b ∷ d) = let h = data-length w d in simp length-append (omega (arith, decimal-length b, gap-length w))

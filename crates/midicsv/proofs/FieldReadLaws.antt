@@ -12,11 +12,13 @@ use Rattle.event.specs.Outcome.{ok, andThen, check}
 use Rattle.event.specs.Bytes.{Bytes}
 use Rattle.event.proofs.ChoiceLaws.{pick-true, pick-false, or-cases, and-both}
 use Rattle.event.proofs.OutcomeLaws.{andThen-eq}
-use Rattle.midicsv.specs.Field.{decimal, escapeAll, quote, Field, num, minus, name, quoted, show, further, lineOf}
+use Rattle.midicsv.specs.Field.{decimal, Field, num, minus, name, quoted}
+use Rattle.midicsv.specs.Show.{Form, asText, asSheet, gap, spellIn, quote, show, joined, further, lineOf}
 use Rattle.midicsv.specs.ReadField.{isBlank, isDigit, isLetter, skip, readNumber, negative, plain, readQuoted, readName, atComma, finish, fieldOf, readField, onward, readFields, allFields}
 use Rattle.midicsv.proofs.AllLaws.{All, all-append, Printable, Digit}
 use Rattle.midicsv.proofs.DecimalReadLaws.{digit-yes, decimal-digits, NoDigit, decimal-read}
-use Rattle.midicsv.proofs.QuotedReadLaws.{push-eq, NoQuote, quoted-read, quote-printable}
+use Rattle.midicsv.proofs.QuotedReadLaws.{push-eq, NoQuote, quoted-read, escapes-printable}
+use Rattle.midicsv.proofs.SpellLaws.{spell-read, spell-printable}
 
 unfoldable pub allLetters : List ℕ → Bool
 allLetters [] = true
@@ -114,51 +116,64 @@ pub quoted-field : (d l r : List ℕ) → readQuoted l plain ≡ ok d r → Ends
 unfolding readField fieldOf
 quoted-field d l r e en = ap fieldOf (skip-none 34 l (omega arith)) ∙ pick-true _ _ refl ∙ andThen-eq _ e ∙ finish-ends (quoted d) r en
 
-pub show-read : (f : Field) (r : List ℕ) → Good f → Ends r → readField (show f ++ r) ≡ ok f r
+spelled-read : (w : Form) (d r : List ℕ) → Bytes d → NoQuote r → readQuoted (spellIn w d ++ (34 ∷ r)) plain ≡ ok d r
+unfolding spellIn
+spelled-read asText d r b h = quoted-read d r b h
+spelled-read asSheet d r b h = spell-read d r b h
+
+pub show-read : (w : Form) (f : Field) (r : List ℕ) → Good f → Ends r → readField (show w f ++ r) ≡ ok f r
 unfolding show Good quote
-show-read (num n) r g h =
+show-read w (num n) r g h =
     number-field (decimal n) r (decimal-digits n g) ∙ andThen-eq _ (decimal-read n r g (ends-digit r h)) ∙ finish-ends (num n) r h
-show-read (minus n) r g h = minus-field n (decimal n ++ r) r (g .0) (decimal-read n r (g .1) (ends-digit r h)) h
-show-read (name s) r g h = name-field s r (g .0) (g .1) ∙ andThen-eq _ (name-read s r (g .1) h) ∙ finish-ends (name s) r h
-show-read (quoted d) r g h =
-    quoted-field d (escapeAll d ++ (34 ∷ []) ++ r) r (ap (λ l. readQuoted l plain) (append-assoc (escapeAll d) (34 ∷ []) r) ∙ quoted-read d r g (ends-quote r h)) h
+show-read w (minus n) r g h = minus-field n (decimal n ++ r) r (g .0) (decimal-read n r (g .1) (ends-digit r h)) h
+show-read w (name s) r g h = name-field s r (g .0) (g .1) ∙ andThen-eq _ (name-read s r (g .1) h) ∙ finish-ends (name s) r h
+show-read w (quoted d) r g h =
+    quoted-field d (spellIn w d ++ (34 ∷ []) ++ r) r (ap (λ l. readQuoted l plain) (append-assoc (spellIn w d) (34 ∷ []) r) ∙ spelled-read w d r g (ends-quote r h)) h
 
 -- ---- a line
 
-pub ends-further : (fs : List Field) → Ends (further fs)
-unfolding further
-ends-further [] = tt
-ends-further (f ∷ fs) = refl
+pub ends-further : (w : Form) (fs : List Field) → Ends (further w fs)
+unfolding further gap
+ends-further w [] = tt
+ends-further asText (f ∷ fs) = refl
+ends-further asSheet (f ∷ fs) = refl
 
-pub blank-first : (l : List ℕ) (n : ℕ) → readFields n (32 ∷ l) ≡ readFields n l
+blank-first : (l : List ℕ) (n : ℕ) → readFields n (32 ∷ l) ≡ readFields n l
 unfolding readFields readField skip isBlank pick
 blank-first l zero = refl
 blank-first l (suc n) = refl
 
-pub last-field : (n : ℕ) (f : Field) → onward f (further []) (readFields n) ≡ ok (f ∷ []) []
+last-field : (w : Form) (n : ℕ) (f : Field) → onward f (further w []) (readFields n) ≡ ok (f ∷ []) []
 unfolding onward further
-last-field n f = refl
+last-field w n f = refl
 
-pub next-field : (n : ℕ) (f x : Field) (fs : List Field) → readFields n (32 ∷ (show x ++ further fs)) ≡ ok (x ∷ fs) [] → onward f (further (x ∷ fs)) (readFields n) ≡ ok (f ∷ x ∷ fs) []
-unfolding onward further
-next-field n f x fs e = andThen-eq _ e
+next-field : (w : Form) (n : ℕ) (f x : Field) (fs : List Field) → readFields n (show w x ++ further w fs) ≡ ok (x ∷ fs) []
+    → onward f (further w (x ∷ fs)) (readFields n) ≡ ok (f ∷ x ∷ fs) []
+unfolding onward further gap
+next-field asText n f x fs e = andThen-eq _ (blank-first (show asText x ++ further asText fs) n ∙ e)
+next-field asSheet n f x fs e = andThen-eq _ e
 
-pub further-read : (n : ℕ) (f : Field) (fs : List Field) → Good f → AllGood fs → length fs < n → readFields n (show f ++ further fs) ≡ ok (f ∷ fs) []
+further-read : (w : Form) (n : ℕ) (f : Field) (fs : List Field) → Good f → AllGood fs → length fs < n → readFields n (show w f ++ further w fs) ≡ ok (f ∷ fs) []
 unfolding readFields
-further-read zero f fs g gs h = absurd (omega arith)
-further-read (suc n) f [] g gs h = andThen-eq _ (show-read f (further []) g (ends-further [])) ∙ last-field n f
-further-read (suc n) f (x ∷ fs) g gs h =
-    andThen-eq _ (show-read f (further (x ∷ fs)) g (ends-further (x ∷ fs)))
-    ∙ next-field n f x fs (blank-first (show x ++ further fs) n ∙ further-read n x fs (gs .0) (gs .1) (omega arith))
+further-read w zero f fs g gs h = absurd (omega arith)
+further-read w (suc n) f [] g gs h = andThen-eq _ (show-read w f (further w []) g (ends-further w [])) ∙ last-field w n f
+further-read w (suc n) f (x ∷ fs) g gs h =
+    andThen-eq _ (show-read w f (further w (x ∷ fs)) g (ends-further w (x ∷ fs)))
+    ∙ next-field w n f x fs (further-read w n x fs (gs .0) (gs .1) (omega arith))
 
-pub further-size : (fs : List Field) → length fs ≤ length (further fs)
+gap-some : (w : Form) → 1 ≤ length (gap w)
+unfolding gap
+gap-some asText = omega arith
+gap-some asSheet = omega arith
+
+further-size : (w : Form) (fs : List Field) → length fs ≤ length (further w fs)
 unfolding further
-further-size [] = omega arith
-further-size (f ∷ fs) = let h = further-size fs in simp length-append (omega arith)
+further-size w [] = omega arith
+further-size w (f ∷ fs) = let h = further-size w fs in simp length-append (omega (arith, gap-some w))
 
-pub line-read : (f : Field) (fs : List Field) → AllGood (f ∷ fs) → allFields (lineOf (f ∷ fs)) ≡ ok (f ∷ fs) []
+pub line-read : (w : Form) (f : Field) (fs : List Field) → AllGood (f ∷ fs) → allFields (lineOf w (f ∷ fs)) ≡ ok (f ∷ fs) []
 unfolding lineOf allFields
-line-read f fs g = further-read _ f fs (g .0) (g .1) (omega (arith, further-size fs, length-append (show f) (further fs)))
+line-read w f fs g = further-read w _ f fs (g .0) (g .1) (omega (arith, further-size w fs, length-append (show w f) (further w fs)))
 
 -- ---- no control bytes
 
@@ -174,19 +189,32 @@ pub digits-printable : (l : List ℕ) → All Digit l → All Printable l
 digits-printable [] a = tt
 digits-printable (c ∷ l) a = (omega arith, digits-printable l (a .1))
 
-pub show-printable : (f : Field) → Good f → All Printable (show f)
-unfolding show Good
-show-printable (num n) g = digits-printable (decimal n) (decimal-digits n g .1)
-show-printable (minus n) g = (omega arith, digits-printable (decimal n) (decimal-digits n (g .1) .1))
-show-printable (name s) g = letters-printable s (g .1)
-show-printable (quoted d) g = quote-printable d
+spelled-printable : (w : Form) (d : List ℕ) → All Printable (spellIn w d)
+unfolding spellIn
+spelled-printable asText d = escapes-printable d
+spelled-printable asSheet d = spell-printable d
 
-pub further-printable : (fs : List Field) → AllGood fs → All Printable (further fs)
+pub show-printable : (w : Form) (f : Field) → Good f → All Printable (show w f)
+unfolding show Good quote
+show-printable w (num n) g = digits-printable (decimal n) (decimal-digits n g .1)
+show-printable w (minus n) g = (omega arith, digits-printable (decimal n) (decimal-digits n (g .1) .1))
+show-printable w (name s) g = letters-printable s (g .1)
+show-printable w (quoted d) g = (omega arith, all-append Printable (spellIn w d) (34 ∷ []) (spelled-printable w d) (omega arith, tt))
+
+gap-printable : (w : Form) → All Printable (gap w)
+unfolding gap
+gap-printable asText = (omega arith, (omega arith, tt))
+gap-printable asSheet = (omega arith, tt)
+
+joined-printable : (w : Form) (f : Field) → Good f → All Printable (joined w f)
+joined-printable w f g = all-append Printable (gap w) (show w f) (gap-printable w) (show-printable w f g)
+
+further-printable : (w : Form) (fs : List Field) → AllGood fs → All Printable (further w fs)
 unfolding further
-further-printable [] g = tt
-further-printable (f ∷ fs) g = (omega arith, (omega arith, all-append Printable (show f) (further fs) (show-printable f (g .0)) (further-printable fs (g .1))))
+further-printable w [] g = tt
+further-printable w (f ∷ fs) g = all-append Printable (joined w f) (further w fs) (joined-printable w f (g .0)) (further-printable w fs (g .1))
 
-pub line-printable : (fs : List Field) → AllGood fs → All Printable (lineOf fs)
+pub line-printable : (w : Form) (fs : List Field) → AllGood fs → All Printable (lineOf w fs)
 unfolding lineOf
-line-printable [] g = tt
-line-printable (f ∷ fs) g = all-append Printable (show f) (further fs) (show-printable f (g .0)) (further-printable fs (g .1))
+line-printable w [] g = tt
+line-printable w (f ∷ fs) g = all-append Printable (show w f) (further w fs) (show-printable w f (g .0)) (further-printable w fs (g .1))

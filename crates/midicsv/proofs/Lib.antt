@@ -1,4 +1,5 @@
 pub mod FieldLaws
+pub mod SpellLaws
 pub mod NameLaws
 pub mod Example
 pub mod RowLaws

@@ -1,4 +1,5 @@
 -- How long the line of a record can be.
+use mathlib.Core.Path.{_≡_, refl}
 use Prim.Native.Nat.{ℕ, zero, suc, _+_, _-_, _*_, _/_, _≤_}
 use mathlib.Core.List.{List, [], _∷_}
 use mathlib.Core.Logic.{inl, inr}
@@ -9,7 +10,12 @@ use borrow.Author.Tests.{lt-ltb, le-ltb, ltb-false}
 use Rattle.event.specs.Choice.{pick}
 use Rattle.event.specs.Bytes.{Bytes}
 use Rattle.event.proofs.ChoiceLaws.{by-test}
-use Rattle.midicsv.specs.Field.{digitsOf, decimal, inOctal, escape, escapeAll, quote, Field, show, further, lineOf}
+use Rattle.midicsv.specs.Field.{bytes, digitsOf, decimal, inOctal, escape, escapeAll, Field}
+use Rattle.midicsv.specs.Names.{lower, sameName}
+use Rattle.midicsv.specs.ReadField.{isLetter}
+use Rattle.midicsv.specs.TruthWords.{truthWords}
+use Rattle.midicsv.specs.Spell.{orOctal, isSolid, standsInside, standsLast, unblanked, listed, isTruth, spellRest, spellShort, spellText}
+use Rattle.midicsv.specs.Show.{Form, asText, asSheet, gap, spellIn, quote, show, further, lineOf}
 use Rattle.midicsv.specs.Table.{RecordName, spelled, Column, range, key, mode, freeType, Tail, none, oneText, sized, shape}
 use Rattle.midicsv.specs.Record.{Record, columnField, dataFields, tailFields, fieldsOf, recordLine}
 use Rattle.midicsv.proofs.FieldLaws.{digits-most, decimal-length, quote-length}
@@ -47,66 +53,98 @@ key-cost n h = omega (arith, decimal-mono n 7 h)
 
 -- ---- fields
 
+-- the bytes between two fields
+unfoldable pub gapCost : Form → ℕ
+gapCost asText = 2
+gapCost asSheet = 1
+
 unfoldable pub columnCost : Column → ℕ
 columnCost (range lo hi) = length (decimal hi)
 columnCost key = 2
 columnCost mode = 7
 columnCost freeType = 3
 
-unfoldable pub columnsCost : List Column → ℕ
-columnsCost [] = 0
-columnsCost (c ∷ cs) = 2 + columnCost c + columnsCost cs
+unfoldable pub columnsCost : Form → List Column → ℕ
+columnsCost w [] = 0
+columnsCost w (c ∷ cs) = gapCost w + columnCost c + columnsCost w cs
 
-unfoldable pub tailCost : Tail → ℕ → ℕ
-tailCost none n = 0
-tailCost oneText n = 4 + 4 * n
-tailCost sized n = 12 + 5 * n
+unfoldable pub tailCost : Form → Tail → ℕ → ℕ
+tailCost w none n = 0
+tailCost w oneText n = gapCost w + 2 + 4 * n
+tailCost asText sized n = 12 + 5 * n
+tailCost asSheet sized n = 11 + 4 * n
 
-pub mode-cost : (m : ℕ) → length (show (columnField mode m)) ≤ 7
-unfolding show columnField quote escapeAll escape pick inOctal
-mode-cost m = by-test (eqb m 0) (λ t. rw t (omega arith)) (λ t. rw t (omega arith))
+gap-cost : (w : Form) → length (gap w) ≡ gapCost w
+unfolding gap gapCost
+gap-cost asText = refl
+gap-cost asSheet = refl
 
-pub column-cost : (c : Column) (n : ℕ) → InColumn c n → length (show (columnField c n)) ≤ columnCost c
+-- "major" and "minor" are spelled as they are
+major-shown : (w : Form) → quote w (bytes "major") ≡ bytes "\"major\""
+unfolding quote spellIn escapeAll escape inOctal spellText spellShort spellRest orOctal standsInside standsLast isSolid isLetter isTruth unblanked truthWords listed sameName lower pick
+major-shown asText = refl
+major-shown asSheet = refl
+
+minor-shown : (w : Form) → quote w (bytes "minor") ≡ bytes "\"minor\""
+unfolding quote spellIn escapeAll escape inOctal spellText spellShort spellRest orOctal standsInside standsLast isSolid isLetter isTruth unblanked truthWords listed sameName lower pick
+minor-shown asText = refl
+minor-shown asSheet = refl
+
+pub mode-shown : (w : Form) (m : ℕ) → show w (columnField mode m) ≡ pick (eqb m 0) (bytes "\"major\"") (bytes "\"minor\"")
+unfolding show columnField pick
+mode-shown w m = by-test (eqb m 0) (λ t. rw t (major-shown w)) (λ t. rw t (minor-shown w))
+
+mode-cost : (w : Form) (m : ℕ) → length (show w (columnField mode m)) ≤ 7
+unfolding pick
+mode-cost w m = rw (mode-shown w m) (by-test (eqb m 0) (λ t. rw t (omega arith)) (λ t. rw t (omega arith)))
+
+column-cost : (w : Form) (c : Column) (n : ℕ) → InColumn c n → length (show w (columnField c n)) ≤ columnCost c
 unfolding InColumn show columnField columnCost pick
-column-cost (range lo hi) n h = decimal-mono n hi (h .1)
-column-cost key b (inl h) = rw (lt-ltb b 8 h) (omega (arith, key-cost b (omega arith)))
-column-cost key b (inr h) = rw (le-ltb b 8 (omega arith)) (omega (arith, key-cost (256 - b) (omega arith)))
-column-cost mode m h = mode-cost m
-column-cost freeType t h = byte-cost t (omega arith)
+column-cost w (range lo hi) n h = decimal-mono n hi (h .1)
+column-cost w key b (inl h) = rw (lt-ltb b 8 h) (omega (arith, key-cost b (omega arith)))
+column-cost w key b (inr h) = rw (le-ltb b 8 (omega arith)) (omega (arith, key-cost (256 - b) (omega arith)))
+column-cost w mode m h = mode-cost w m
+column-cost w freeType t h = byte-cost t (omega arith)
 
-pub data-cost : (d : List ℕ) → Bytes d → length (further (dataFields d)) ≤ 5 * length d
-unfolding further dataFields show
-data-cost [] h = omega arith
-data-cost (b ∷ d) h = let q = data-cost d (h .1) in simp length-append (omega (arith, byte-cost b (omega (arith, h .0))))
+data-text : (d : List ℕ) → Bytes d → length (further asText (dataFields d)) ≤ 5 * length d
+unfolding further dataFields show gap
+data-text [] h = omega arith
+data-text (b ∷ d) h = let q = data-text d (h .1) in simp length-append (omega (arith, byte-cost b (omega (arith, h .0))))
 
-pub tail-cost : (t : Tail) (d : List ℕ) → InTail t d → length (further (tailFields t d)) ≤ tailCost t (length d)
-unfolding InTail further tailFields tailCost show
-tail-cost none d h = omega arith
-tail-cost oneText d h = simp length-append (omega (arith, quote-length d))
-tail-cost sized d h = simp length-append (omega (arith, decimal-length (length d), data-cost d h))
+data-sheet : (d : List ℕ) → Bytes d → length (further asSheet (dataFields d)) ≤ 4 * length d
+unfolding further dataFields show gap
+data-sheet [] h = omega arith
+data-sheet (b ∷ d) h = let q = data-sheet d (h .1) in simp length-append (omega (arith, byte-cost b (omega (arith, h .0))))
 
-pub one-cost : (f : Field) (fs : List Field) (a b : ℕ) → length (show f) ≤ a → length (further fs) ≤ b → length (further (f ∷ fs)) ≤ 2 + a + b
+tail-cost : (w : Form) (t : Tail) (d : List ℕ) → InTail t d → length (further w (tailFields t d)) ≤ tailCost w t (length d)
+unfolding InTail further tailFields tailCost show gap gapCost
+tail-cost w none d h = omega arith
+tail-cost w oneText d h = simp length-append (omega (arith, quote-length w d, gap-cost w))
+tail-cost asText sized d h = simp length-append (omega (arith, decimal-length (length d), data-text d h))
+tail-cost asSheet sized d h = simp length-append (omega (arith, decimal-length (length d), data-sheet d h))
+
+one-cost : (w : Form) (f : Field) (fs : List Field) (a b : ℕ) → length (show w f) ≤ a → length (further w fs) ≤ b → length (further w (f ∷ fs)) ≤ gapCost w + a + b
 unfolding further
-one-cost f fs a b h k = simp length-append (omega arith)
+one-cost w f fs a b h k = simp length-append (omega (arith, gap-cost w))
 
-pub columns-cost : (cs : List Column) (t : Tail) (ns d : List ℕ) → InColumns cs ns → InTail t d
-    → length (further (fieldsOf cs t ns d)) ≤ columnsCost cs + tailCost t (length d)
+columns-cost : (w : Form) (cs : List Column) (t : Tail) (ns d : List ℕ) → InColumns cs ns → InTail t d
+    → length (further w (fieldsOf cs t ns d)) ≤ columnsCost w cs + tailCost w t (length d)
 unfolding InColumns fieldsOf columnsCost
-columns-cost [] t [] d h g = let q = tail-cost t d g in omega arith
-columns-cost [] t (n ∷ ns) d h g = absurd h
-columns-cost (c ∷ cs) t [] d h g = absurd h
-columns-cost (c ∷ cs) t (n ∷ ns) d h g =
-    let q = columns-cost cs t ns d (h .1) g in
-    omega (arith, one-cost (columnField c n) (fieldsOf cs t ns d) (columnCost c) (columnsCost cs + tailCost t (length d)) (column-cost c n (h .0)) q)
+columns-cost w [] t [] d h g = let q = tail-cost w t d g in omega arith
+columns-cost w [] t (n ∷ ns) d h g = absurd h
+columns-cost w (c ∷ cs) t [] d h g = absurd h
+columns-cost w (c ∷ cs) t (n ∷ ns) d h g =
+    let q = columns-cost w cs t ns d (h .1) g in
+    omega (arith, one-cost w (columnField c n) (fieldsOf cs t ns d) (columnCost c) (columnsCost w cs + tailCost w t (length d)) (column-cost w c n (h .0)) q)
 
 -- ---- a record, with its LF
 
-unfoldable pub cost : RecordName → ℕ → ℕ
-cost n k = 20 + length (spelled n) + columnsCost (shape n .columns) + tailCost (shape n .tail) k
+unfoldable pub cost : Form → RecordName → ℕ → ℕ
+cost w n k = 16 + 2 * gapCost w + length (spelled n) + columnsCost w (shape n .columns) + tailCost w (shape n .tail) k
 
-pub record-cost : (r : Record) → r .track ≤ 65535 → InColumns (shape (r .name) .columns) (r .values .columns) → InTail (shape (r .name) .tail) (r .values .body)
-    → length (recordLine r) + 1 ≤ cost (r .name) (length (r .values .body))
+pub record-cost : (w : Form) (r : Record) → r .track ≤ 65535 → InColumns (shape (r .name) .columns) (r .values .columns) → InTail (shape (r .name) .tail) (r .values .body)
+    → length (recordLine w r) + 1 ≤ cost w (r .name) (length (r .values .body))
 unfolding recordLine lineOf show further cost
-record-cost r h cs t =
-    let q = columns-cost (shape (r .name) .columns) (shape (r .name) .tail) (r .values .columns) (r .values .body) cs t in
-    simp length-append (omega (arith, track-cost (r .track) h, decimal-length (r .time)))
+record-cost w r h cs t =
+    let q = columns-cost w (shape (r .name) .columns) (shape (r .name) .tail) (r .values .columns) (r .values .body) cs t in
+    simp length-append (omega (arith, track-cost (r .track) h, decimal-length (r .time), gap-cost w))

@@ -11,7 +11,7 @@ use Rattle.event.specs.Outcome.{Outcome, ok}
 use Rattle.event.specs.Bytes.{Bytes}
 use Rattle.event.proofs.ChoiceLaws.{by-test, pick-true, pick-false}
 use Rattle.event.proofs.OutcomeLaws.{check-eq}
-use Rattle.midicsv.specs.Field.{inOctal, escape, escapeAll, quote}
+use Rattle.midicsv.specs.Field.{inOctal, escape, escapeAll}
 use Rattle.midicsv.specs.ReadField.{push, plain, aSlash, octal1, octal2, isOctal, readQuoted}
 use Rattle.midicsv.proofs.AllLaws.{All, all-append, Printable}
 
@@ -107,7 +107,3 @@ pub escapes-printable : (d : List ℕ) → All Printable (escapeAll d)
 unfolding escapeAll
 escapes-printable [] = tt
 escapes-printable (c ∷ d) = all-append Printable (escape c) (escapeAll d) (escape-printable c) (escapes-printable d)
-
-pub quote-printable : (d : List ℕ) → All Printable (quote d)
-unfolding quote
-quote-printable d = (omega arith, all-append Printable (escapeAll d) (34 ∷ []) (escapes-printable d) (omega arith, tt))

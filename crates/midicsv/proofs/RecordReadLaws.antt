@@ -6,9 +6,10 @@ use mathlib.Core.List.{List, _∷_}
 use native.Mathlib.Omega.{arith}
 use lib.ListN.{length}
 use Rattle.event.specs.Outcome.{ok}
-use Rattle.midicsv.specs.Field.{Field, num, name, lineOf}
+use Rattle.midicsv.specs.Field.{Field, num, name}
+use Rattle.midicsv.specs.Show.{Form, lineOf}
 use Rattle.midicsv.specs.Table.{spelled, shape}
-use Rattle.midicsv.specs.Record.{Record, fieldsOf, recordLine}
+use Rattle.midicsv.specs.Record.{Record, fieldsOf, recordFields, recordLine}
 use Rattle.midicsv.specs.Result.{good}
 use Rattle.midicsv.specs.ReadField.{allFields}
 use Rattle.midicsv.specs.ReadRecord.{together, withValues, recordOf, ofFields, readLine}
@@ -29,11 +30,6 @@ pub record Sound (r : Record) : Type 0 where
   pub small : length (r .values .body) ≤ 4294967295
   pub together : together (r .name) (r .values .columns) ≡ true
 
-abbrev pub recordFields : Record → List Field
-recordFields r =
-    num (r .track) ∷ num (r .time) ∷ name (spelled (r .name))
-    ∷ fieldsOf (shape (r .name) .columns) (shape (r .name) .tail) (r .values .columns) (r .values .body)
-
 pub record-read : (r : Record) → Sound r → recordOf (recordFields r) ≡ good r
 unfolding recordOf withValues
 record-read r s =
@@ -49,12 +45,12 @@ unfolding Good
 fields-good r s =
     (omega (arith, s .track), (s .time, ((s .known .0, s .known .1), columns-good (shape (r .name) .columns) (shape (r .name) .tail) (r .values .columns) (r .values .body) (s .columns) (s .tail) (s .small))))
 
-pub line-back : (r : Record) → Sound r → readLine (recordLine r) ≡ good r
+pub line-back : (w : Form) (r : Record) → Sound r → readLine (recordLine w r) ≡ good r
 unfolding readLine recordLine ofFields
-line-back r s =
-    let e : allFields (lineOf (recordFields r)) ≡ ok (recordFields r) _ = line-read _ _ (fields-good r s) in
+line-back w r s =
+    let e : allFields (lineOf w (recordFields r)) ≡ ok (recordFields r) _ = line-read w _ _ (fields-good r s) in
     ap ofFields e ∙ record-read r s
 
-pub record-printable : (r : Record) → Sound r → All Printable (recordLine r)
+pub record-printable : (w : Form) (r : Record) → Sound r → All Printable (recordLine w r)
 unfolding recordLine
-record-printable r s = line-printable (recordFields r) (fields-good r s)
+record-printable w r s = line-printable w (recordFields r) (fields-good r s)

@@ -1,4 +1,4 @@
--- Demand 2, the text side: the text of a piece that has a layout is read to that piece, and is never too long.
+-- Demand 2, the text side: the text of a piece that has a layout, and its sheet form, are read to that piece, and are never too long.
 use mathlib.Core.Path.{_≡_, refl, ap, _∙_}
 use Prim.Native.Nat.{ℕ, suc, _+_, _≤_}
 use mathlib.Core.Bool.{Bool, true, false}
@@ -13,10 +13,11 @@ use Rattle.smf.specs.Spelling.{PermittedPiece}
 use Rattle.smf.specs.Layout.{LaidOut}
 use Rattle.smf.specs.Reader.{fileLimit}
 use Rattle.smf.proofs.FileLaws.{fit-yes}
-use Rattle.midicsv.specs.Field.{decimal, lineOf, show}
+use Rattle.midicsv.specs.Field.{decimal}
+use Rattle.midicsv.specs.Show.{Form, asText, asSheet, lineOf, show}
 use Rattle.midicsv.specs.Table.{start-track, end-of-file, shape}
 use Rattle.midicsv.specs.Record.{Record, recordLine}
-use Rattle.midicsv.specs.Text.{mark, eventRecord, eventRecords, trackRecords, headerRecord, pieceRecords, recordsText, textOf}
+use Rattle.midicsv.specs.Text.{mark, eventRecord, eventRecords, trackRecords, headerRecord, pieceRecords, recordsText, writtenAs}
 use Rattle.midicsv.specs.Result.{Result, good, bad, next}
 use Rattle.midicsv.specs.ReadRecord.{together}
 use Rattle.midicsv.specs.Lines.{linesOf, passedOver}
@@ -24,7 +25,7 @@ use Rattle.midicsv.specs.Order.{State, first, step}
 use Rattle.midicsv.specs.PieceOfText.{told, framed, tellLine, stepTold, advance, ended, runLines, pieceTold, pieceOfText, textLimit}
 use Rattle.midicsv.proofs.AllLaws.{All, Printable}
 use Rattle.midicsv.proofs.RowLaws.{InColumn, InColumns, InTail, rowed}
-use Rattle.midicsv.proofs.BoundLaws.{text-bound}
+use Rattle.midicsv.proofs.BoundLaws.{most, written-bound}
 use Rattle.midicsv.proofs.DecimalReadLaws.{decimal-digits}
 use Rattle.midicsv.proofs.KnownLaws.{frames-known, kind-known}
 use Rattle.midicsv.proofs.RecordReadLaws.{Sound, line-back, record-printable}
@@ -39,17 +40,17 @@ unfoldable pub AllSound : List Record → Type 0
 AllSound [] = Unit {0}
 AllSound (r ∷ rs) = Sound r × AllSound rs
 
-pub kept : (r : Record) → r .track ≤ 65535 → passedOver (recordLine r) ≡ false
+pub kept : (w : Form) (r : Record) → r .track ≤ 65535 → passedOver (recordLine w r) ≡ false
 unfolding recordLine lineOf show
-kept r h = not-passed (decimal (r .track)) _ (decimal-digits (r .track) (omega arith))
+kept w r h = not-passed (decimal (r .track)) _ (decimal-digits (r .track) (omega arith))
 
-pub line-told : (r : Record) → Sound r → All Printable (recordLine r) → tellLine (recordLine r) ≡ told (good r)
+pub line-told : (w : Form) (r : Record) → Sound r → All Printable (recordLine w r) → tellLine (recordLine w r) ≡ told (good r)
 unfolding tellLine framed
-line-told r a pr = rw (trimmed-same (recordLine r) pr) (pick-false _ _ (kept r (a .track)) ∙ ap told (line-back r a))
+line-told w r a pr = rw (trimmed-same (recordLine w r) pr) (pick-false _ _ (kept w r (a .track)) ∙ ap told (line-back w r a))
 
-pub line-step : (s : State) (r : Record) → tellLine (recordLine r) ≡ told (good r) → stepTold s (tellLine (recordLine r)) ≡ step s r
+pub line-step : (w : Form) (s : State) (r : Record) → tellLine (recordLine w r) ≡ told (good r) → stepTold s (tellLine (recordLine w r)) ≡ step s r
 unfolding stepTold next
-line-step s r e = ap (stepTold s) e
+line-step w s r e = ap (stepTold s) e
 
 pub advance-same : (m : Result State) (n : ℕ) (f g : State → Outcome Piece) → ((s : State) → f s ≡ g s) → advance m n f ≡ advance m n g
 unfolding advance
@@ -60,19 +61,19 @@ pub no-lines : (s : State) (n : ℕ) → runLines tellLine (linesOf []) s n ≡ 
 unfolding runLines linesOf
 no-lines s n = refl
 
-pub one-line : (ls : List (List ℕ)) (r : Record) (s : State) (n : ℕ) → tellLine (recordLine r) ≡ told (good r)
-    → runLines tellLine (recordLine r ∷ ls) s n ≡ advance (step s r) n (λ t. runLines tellLine ls t (suc n))
+pub one-line : (w : Form) (ls : List (List ℕ)) (r : Record) (s : State) (n : ℕ) → tellLine (recordLine w r) ≡ told (good r)
+    → runLines tellLine (recordLine w r ∷ ls) s n ≡ advance (step s r) n (λ t. runLines tellLine ls t (suc n))
 unfolding runLines
-one-line ls r s n e = ap (λ m. advance m n (λ t. runLines tellLine ls t (suc n))) (line-step s r e)
+one-line w ls r s n e = ap (λ m. advance m n (λ t. runLines tellLine ls t (suc n))) (line-step w s r e)
 
-pub lines-run : (rs : List Record) (s : State) (n : ℕ) → AllSound rs → runLines tellLine (linesOf (recordsText rs)) s n ≡ runRecords rs s n
+pub lines-run : (w : Form) (rs : List Record) (s : State) (n : ℕ) → AllSound rs → runLines tellLine (linesOf (recordsText w rs)) s n ≡ runRecords rs s n
 unfolding AllSound recordsText runRecords
-lines-run [] s n a = no-lines s n
-lines-run (r ∷ rs) s n a =
-    let pr : All Printable (recordLine r) = record-printable r (a .0) in
-    ap (λ z. runLines tellLine z s n) (lines-feed (recordLine r) (recordsText rs) (printable-feed (recordLine r) pr))
-    ∙ one-line (linesOf (recordsText rs)) r s n (line-told r (a .0) pr)
-    ∙ advance-same (step s r) n _ _ (λ t. lines-run rs t (suc n) (a .1))
+lines-run w [] s n a = no-lines s n
+lines-run w (r ∷ rs) s n a =
+    let pr : All Printable (recordLine w r) = record-printable w r (a .0) in
+    ap (λ z. runLines tellLine z s n) (lines-feed (recordLine w r) (recordsText w rs) (printable-feed (recordLine w r) pr))
+    ∙ one-line w (linesOf (recordsText w rs)) r s n (line-told w r (a .0) pr)
+    ∙ advance-same (step s r) n _ _ (λ t. lines-run w rs t (suc n) (a .1))
 
 -- ---- the records of a piece are read back
 
@@ -142,12 +143,14 @@ piece-sound p l ls =
 
 -- ---- the text of a piece that has a layout
 
-pub text-read : (f : List ℕ) (p : Piece) → LaidOut f p → pieceOfText (textOf p) ≡ ok p []
-unfolding pieceOfText pieceTold textOf PermittedPiece
-text-read f p l =
+pub written-read : (w : Form) (f : List ℕ) (p : Piece) → LaidOut f p → pieceOfText (writtenAs w p) ≡ ok p []
+unfolding pieceOfText pieceTold writtenAs PermittedPiece
+written-read w f p l =
     let ls = tracks-layable (p .tracks) (l .spelling .tracks) (l .has .lawful .tracks) (l .has .permitted) in
-    lines-run (pieceRecords p) first 1 (piece-sound p (l .has .lawful) ls) ∙ piece-run p 1 ls
+    lines-run w (pieceRecords p) first 1 (piece-sound p (l .has .lawful) ls) ∙ piece-run p 1 ls
 
--- "so 21 never meets our own text"
-pub text-small : (f : List ℕ) (p : Piece) → LaidOut f p → length f ≤ fileLimit → length (textOf p) ≤ textLimit
-text-small f p l h = omega (arith, text-bound f p l)
+-- "so 21 never meets our own text", nor our own sheet
+pub written-small : (w : Form) (f : List ℕ) (p : Piece) → LaidOut f p → length f ≤ fileLimit → length (writtenAs w p) ≤ textLimit
+unfolding most
+written-small asText f p l h = omega (arith, written-bound asText f p l)
+written-small asSheet f p l h = omega (arith, written-bound asSheet f p l)

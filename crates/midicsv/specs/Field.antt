@@ -1,4 +1,4 @@
--- The fields of a record as they are written: numbers, names and quoted texts.
+-- Fields: numbers, names and quoted texts; decimals and escapes.
 use Prim.Native.Nat.{ℕ, zero, suc, _+_, _/_, _%_}
 use Prim.Native.Char.{code}
 use Prim.Native.String.{String, [] as []ˢ, _∷_ as _∷ˢ_}
@@ -37,32 +37,7 @@ unfoldable pub escapeAll : List ℕ → List ℕ
 escapeAll [] = []
 escapeAll (c ∷ d) = escape c ++ escapeAll d
 
--- "Texts stand in double quotes"
-unfoldable pub quote : List ℕ → List ℕ
-quote d = 34 ∷ (escapeAll d ++ (34 ∷ []))
-
 -- "A field is a number (optional minus ..), a name .. or a quoted text"
 pub data Field : Type 0 where
   num minus : ℕ → Field
   name quoted : List ℕ → Field
-
--- a field as it is written
-unfoldable pub show : Field → List ℕ
-show (num n) = decimal n
-show (minus n) = 45 ∷ decimal n
-show (name s) = s
-show (quoted d) = quote d
-
--- "fields joined by comma and one space"
-abbrev pub joined : Field → List ℕ
-joined f = 44 ∷ 32 ∷ show f
-
--- fields that follow another: a comma and a space before each
-unfoldable pub further : List Field → List ℕ
-further [] = []
-further (f ∷ fs) = joined f ++ further fs
-
--- a record without its LF: "fields joined by comma and one space"
-unfoldable pub lineOf : List Field → List ℕ
-lineOf [] = []
-lineOf (f ∷ fs) = show f ++ further fs

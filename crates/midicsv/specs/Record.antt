@@ -6,7 +6,8 @@ use lib.Dec.{ltb, eqb}
 use Rattle.event.specs.Choice.{pick}
 use Rattle.event.specs.Event.{Kind, noteOff, noteOn, polyAftertouch, control, program, channelAftertouch, pitchBend, systemExclusive, systemExclusivePacket, sequenceNumber, text, channelPrefix, midiPort, endTrack, tempo, smpteOffset, timeSignature, keySignature, sequencerSpecific, unknownMeta}
 use Rattle.event.specs.Frame.{keyByte}
-use Rattle.midicsv.specs.Field.{bytes, Field, num, minus, name, quoted, lineOf}
+use Rattle.midicsv.specs.Field.{bytes, Field, num, minus, name, quoted}
+use Rattle.midicsv.specs.Show.{Form, lineOf}
 use Rattle.midicsv.specs.Table.{EventName, note-off, note-on, poly-aftertouch, control-change, program-change, channel-aftertouch, pitch-bend, system-exclusive, system-exclusive-packet, sequence-number, words, channel-prefix, midi-port, end-track, set-tempo, smpte-offset, time-signature, key-signature, sequencer-specific, unknown-meta, RecordName, spelled, Column, range, key, mode, freeType, Tail, none, oneText, sized, shape}
 
 -- the numbers of the columns, and the bytes of the Text or Data
@@ -48,10 +49,14 @@ fieldsOf (c ∷ cs) t [] d = []
 fieldsOf (c ∷ cs) t (n ∷ ns) d = columnField c n ∷ fieldsOf cs t ns d
 
 -- Track, Time, name, then the fields of the name's shape
-unfoldable pub recordLine : Record → List ℕ
-recordLine r =
-    lineOf (num (r .track) ∷ num (r .time) ∷ name (spelled (r .name))
-    ∷ fieldsOf (shape (r .name) .columns) (shape (r .name) .tail) (r .values .columns) (r .values .body))
+abbrev pub recordFields : Record → List Field
+recordFields r =
+    num (r .track) ∷ num (r .time) ∷ name (spelled (r .name))
+    ∷ fieldsOf (shape (r .name) .columns) (shape (r .name) .tail) (r .values .columns) (r .values .body)
+
+-- the line of a record
+unfoldable pub recordLine : Form → Record → List ℕ
+recordLine w r = lineOf w (recordFields r)
 
 -- ---- the record of an event
 

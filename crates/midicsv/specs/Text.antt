@@ -1,10 +1,11 @@
--- The text of a piece.
+-- The text of a piece, and its sheet form.
 use Prim.Native.Nat.{ℕ, suc}
 use mathlib.Core.List.{List, [], _∷_, _++_}
 use lib.ListN.{length}
 use Rattle.event.specs.Event.{Event}
 use Rattle.smf.specs.Piece.{Piece}
 use Rattle.midicsv.specs.Table.{RecordName, header, start-track, end-of-file, event}
+use Rattle.midicsv.specs.Show.{Form, asText, asSheet}
 use Rattle.midicsv.specs.Record.{Record, recordLine, nameOf, plain, valuesOf}
 
 -- Start_track and End_of_file: at Time 0, without further fields
@@ -35,10 +36,18 @@ unfoldable pub pieceRecords : Piece → List Record
 pieceRecords p = headerRecord p ∷ (trackRecords 1 (p .tracks) ++ (mark end-of-file 0 ∷ []))
 
 -- "each record ended by LF"
-unfoldable pub recordsText : List Record → List ℕ
-recordsText [] = []
-recordsText (r ∷ rs) = recordLine r ++ (10 ∷ recordsText rs)
+unfoldable pub recordsText : Form → List Record → List ℕ
+recordsText w [] = []
+recordsText w (r ∷ rs) = recordLine w r ++ (10 ∷ recordsText w rs)
+
+-- the piece in one of its forms
+unfoldable pub writtenAs : Form → Piece → List ℕ
+writtenAs w p = recordsText w (pieceRecords p)
 
 -- THE text of a piece
-unfoldable pub textOf : Piece → List ℕ
-textOf p = recordsText (pieceRecords p)
+abbrev pub textOf : Piece → List ℕ
+textOf p = writtenAs asText p
+
+-- THE sheet form of a piece (docs/SPREADSHEET.md)
+abbrev pub sheetOf : Piece → List ℕ
+sheetOf p = writtenAs asSheet p

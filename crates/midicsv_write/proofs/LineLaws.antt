@@ -21,7 +21,8 @@ use Rattle.event.proofs.EventKind.{the-type}
 use Rattle.event.proofs.ChoiceLaws.{by-test, or-cases, and-both}
 use Rattle.event_write.specs.Written.{Written}
 use Rattle.event_write.proofs.DataLaws.{data-length}
-use Rattle.midicsv.specs.Field.{bytes, digitsOf, decimal, inOctal, escape, escapeAll, quote, Field, num, show, joined, further, lineOf}
+use Rattle.midicsv.specs.Field.{bytes, digitsOf, decimal, inOctal, escape, escapeAll, Field, num}
+use Rattle.midicsv.specs.Show.{quote, show, joined, further, lineOf}
 use Rattle.midicsv.specs.Table.{EventName, note-off, note-on, poly-aftertouch, control-change, program-change, channel-aftertouch, pitch-bend, system-exclusive, system-exclusive-packet, sequence-number, words, channel-prefix, midi-port, end-track, set-tempo, smpte-offset, time-signature, key-signature, sequencer-specific, unknown-meta, start-track, end-of-file, eventSpelled, spelled, Column, range, key, mode, freeType, Tail, none, oneText, sized, eventShape, shape}
 use Rattle.midicsv.specs.Record.{columnField, tailFields, fieldsOf, recordLine, nameOf, valuesOf}
 use Rattle.midicsv.specs.Text.{mark, eventRecord, recordsText}

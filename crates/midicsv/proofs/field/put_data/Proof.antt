@@ -1,7 +1,7 @@
 use Prim.Native.Nat.{_-_, _≤_}
 use lib.ListN.{length}
 use Rattle.event_write.proofs.WriteLaws.{Remains, all-remains, less-remains, none-remains}
-use Rattle.midicsv.specs.Field.{further}
+use Rattle.midicsv.specs.Show.{further}
 use Rattle.midicsv.specs.Record.{dataFields}
 use Rattle.midicsv.proofs.FieldLaws.{DataLeft, data-more, data-end, data-length}
 use native.Mathlib.Omega.{arith}

@@ -1,5 +1,5 @@
 use Rattle.event_write.proofs.WriteLaws.{then}
-use Rattle.midicsv.specs.Field.{show}
+use Rattle.midicsv.specs.Show.{show}
 use borrow.Author.Needs.{needs}
 use Rattle.midicsv.proofs.field.put_number_field.Statement.{statement}
 use Rattle.midicsv.proofs.field.put_number_field.Tie as tie

@@ -1,6 +1,6 @@
 use lib.ListN.{length}
 use Rattle.event_write.proofs.WriteLaws.{then}
-use Rattle.midicsv.specs.Field.{show, further}
+use Rattle.midicsv.specs.Show.{show, further}
 use Rattle.midicsv.specs.Record.{tailFields}
 use Rattle.midicsv.proofs.FieldLaws.{decimal-length}
 use native.Mathlib.Omega.{arith}

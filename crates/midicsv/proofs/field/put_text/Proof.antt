@@ -2,7 +2,7 @@ use Prim.Native.Nat.{_-_, _≤_}
 use mathlib.Core.List.{[], _∷_}
 use lib.ListN.{length}
 use Rattle.event_write.proofs.WriteLaws.{then, Remains, all-remains, less-remains, none-remains}
-use Rattle.midicsv.specs.Field.{quote}
+use Rattle.midicsv.specs.Show.{quote}
 use Rattle.midicsv.proofs.FieldLaws.{TextLeft, text-more, text-end, text-length}
 use native.Mathlib.Omega.{arith}
 use mathlib.Core.Path.{_≡_, refl, _∙_}

@@ -1,7 +1,8 @@
 use Rattle.event_write.proofs.WriteLaws.{nothing}
 use Rattle.event.specs.Step.{kindFrom}
 use Rattle.event_write.proofs.DataLaws.{data-length}
-use Rattle.midicsv.specs.Field.{quoted, further}
+use Rattle.midicsv.specs.Field.{quoted}
+use Rattle.midicsv.specs.Show.{further}
 use Rattle.midicsv.specs.Table.{eventShape}
 use Rattle.midicsv.specs.Record.{tailFields, nameOf, valuesOf}
 use Rattle.midicsv_write.proofs.LineLaws.{last-field, no-body}

@@ -1,6 +1,6 @@
 use Rattle.event_write.proofs.WriteLaws.{then}
 use Rattle.event.specs.Step.{kindFrom}
-use Rattle.midicsv.specs.Field.{further}
+use Rattle.midicsv.specs.Show.{further}
 use Rattle.midicsv.specs.Table.{eventShape}
 use Rattle.midicsv.specs.Record.{columnField, tailFields, fieldsOf, nameOf, valuesOf}
 use Rattle.midicsv_write.proofs.LineLaws.{number-length, three-columns}

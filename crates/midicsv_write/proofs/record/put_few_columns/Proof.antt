@@ -1,6 +1,7 @@
 use Rattle.event_write.proofs.WriteLaws.{then, nothing}
 use Rattle.event.specs.Step.{kindFrom}
-use Rattle.midicsv.specs.Field.{num, further}
+use Rattle.midicsv.specs.Field.{num}
+use Rattle.midicsv.specs.Show.{further}
 use Rattle.midicsv.specs.Table.{mode, eventShape}
 use Rattle.midicsv.specs.Record.{columnField, tailFields, fieldsOf, nameOf, valuesOf}
 use Rattle.midicsv_write.proofs.LineLaws.{last-field, key-length, key-fields, no-columns}

@@ -1,5 +1,5 @@
 use Rattle.event_write.proofs.WriteLaws.{then}
-use Rattle.midicsv.specs.Field.{further}
+use Rattle.midicsv.specs.Show.{further}
 use Rattle.midicsv_write.proofs.LineLaws.{number-length}
 use native.Mathlib.Omega.{arith}
 use borrow.Author.Needs.{needs}

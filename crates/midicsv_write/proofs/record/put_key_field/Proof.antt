@@ -1,6 +1,6 @@
 use Rattle.event.specs.Choice.{pick}
 use Rattle.event_write.proofs.WriteLaws.{then}
-use Rattle.midicsv.specs.Field.{show}
+use Rattle.midicsv.specs.Show.{show}
 use Rattle.midicsv.specs.Record.{columnField}
 use borrow.Author.Tests.{lt-ltb, le-ltb}
 use borrow.Author.Needs.{needs}

@@ -1,5 +1,6 @@
 use Rattle.event.specs.Choice.{pick}
-use Rattle.midicsv.specs.Field.{inOctal, escape, escapeAll, quote, show}
+use Rattle.midicsv.specs.Field.{inOctal, escape, escapeAll}
+use Rattle.midicsv.specs.Show.{quote, show}
 use Rattle.midicsv.specs.Record.{columnField}
 use borrow.Author.Tests.{eq-eqb, ne-eqb}
 use borrow.Author.Needs.{needs}

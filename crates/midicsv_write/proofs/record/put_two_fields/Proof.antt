@@ -1,5 +1,6 @@
 use Rattle.event_write.proofs.WriteLaws.{then}
-use Rattle.midicsv.specs.Field.{num, further}
+use Rattle.midicsv.specs.Field.{num}
+use Rattle.midicsv.specs.Show.{further}
 use Rattle.midicsv_write.proofs.LineLaws.{last-field, number-length}
 use native.Mathlib.Omega.{arith}
 use borrow.Author.Needs.{needs}
