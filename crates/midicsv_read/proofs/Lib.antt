@@ -2,8 +2,6 @@ pub mod QuotedLaws
 pub mod DataLaws
 pub mod NumberedLaws
 pub mod RowEventLaws
-pub mod FrameLaws
-pub mod CutLaws
 pub mod BytesSoFarLaws
 pub mod TakeLaws
 pub mod TakeEventLaws

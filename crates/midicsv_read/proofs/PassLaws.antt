@@ -13,13 +13,13 @@ use Rattle.midicsv.specs.Result.{bad}
 use Rattle.midicsv.specs.Lines.{linesOf}
 use Rattle.midicsv.specs.Order.{State, first, between, inside, finished}
 use Rattle.midicsv.specs.PieceOfText.{tellLine, stepTold, advance, ended, runLines, pieceTold, pieceOfText}
-use Rattle.midicsv_read.specs.Cut.{CutAt}
+use Rattle.midicsv_scan.specs.Cut.{CutAt}
 use Rattle.midicsv_read.specs.Progress.{bytesOf, At, Answers, Follows, Near, lineStep, passedAs, Leaves}
 use Rattle.midicsv_read.specs.declared.Progress.{Progress}
 use Rattle.midicsv_read.specs.declared.Step.{Step}
 use Rattle.midicsv_read.specs.declared.Step.the-variants.{Moved, Bad}
 use Rattle.midicsv_read.specs.declared.Passed.the-variants.{Whole, Stopped}
-use Rattle.midicsv_read.proofs.CutLaws.{cut-size}
+use Rattle.midicsv_scan.proofs.CutLaws.{cut-size}
 
 -- the lines from the place i, line n, on decide what the whole text decides; a line of k bytes adds at most 15 + k
 pub record Going (m : Manner) (text old : List ℕ) (st : Progress) (i n : ℕ) (out : List ℕ) : Type 0 where

@@ -1,6 +1,5 @@
 // Text to file.
 mod write_row; // write_row.rt: a row's event written
-mod frame; // frame.rt: the lines of a text
 mod order; // order.rt: records in their order
 pub mod to_file; // to_file.rt: text to file
 
@@ -8,12 +7,6 @@ pub mod to_file; // to_file.rt: text to file
 struct DataStep {
     byte: u8,
     next: usize,
-}
-
-// Where a line ends, and where the next begins.
-pub struct Cut {
-    pub end: usize,
-    pub next: usize,
 }
 
 // Where a pass over the records stands: the phase is 0 before the Header, 1 between tracks, 2 in a

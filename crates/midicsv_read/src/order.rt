@@ -12,8 +12,6 @@ ghost use Rattle.smf.specs.Layout.{layHeader};
 ghost use Rattle.midicsv_read.specs.Progress.{divisionOf, headerStep, startStep, endStep, rowStep, lineStep, RowOf, InTrack, Follows, FollowsEither, FollowsStill, Near, Sized};
 use super::Progress;
 use super::Step;
-use super::frame::passed_over;
-use super::frame::trim;
 use super::write_row::put_row;
 use super::write_row::row_kind;
 use super::write_row::status_after;
@@ -25,6 +23,8 @@ use event_write::bytes::put_two;
 use midicsv_record::LineStep;
 use midicsv_record::Row;
 use midicsv_record::line::read_line;
+use midicsv_scan::frame::passed_over;
+use midicsv_scan::frame::trim;
 
 // Whether a Header, Start_track or End_of_file has this Track and the Time 0.
 fn is_marked(row: Row, track: u32) -> bool

@@ -9,9 +9,9 @@ ghost use Rattle.midicsv_read.specs.ToFile.{fileAnswer, fileLeaves};
 use super::Passed;
 use super::Progress;
 use super::Step;
-use super::frame::line_at;
 use super::order::take_line;
 use event::Time;
+use midicsv_scan::frame::line_at;
 use smf::Answer;
 
 // Reads all lines, and writes their file as far as there is room: lent no room, it measures.

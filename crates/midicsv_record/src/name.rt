@@ -19,7 +19,7 @@ fn lower(c: u8) -> u8
 }
 
 // Whether two names are the same.
-fn same_name(part: &[u8], name: &[u8]) -> bool
+pub fn same_name(part: &[u8], name: &[u8]) -> bool
     ensures { λ r. ⌜ r ≡ sameName (now (part .entry)) (now (name .entry)) ⌝ }
 {
     // most names differ in length

@@ -4,3 +4,5 @@ mod TextLaws
 mod EndLaws
 pub mod FieldLaws
 mod FieldsLaws
+pub mod CutLaws
+pub mod FrameLaws

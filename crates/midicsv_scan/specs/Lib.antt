@@ -2,3 +2,4 @@
 pub mod Unquoted
 pub mod FieldStep
 pub mod Part
+pub mod Cut

@@ -5,6 +5,7 @@ mod text; // text.rt: quoted texts
 mod ends; // ends.rt: blanks, names, and what closes a field
 pub mod field; // field.rt: the field at a place
 pub mod fields; // fields.rt: all fields of a line
+pub mod frame; // frame.rt: the lines of a text
 
 // A field: its value, or where it stands (a text from after its opening quote on); next is the
 // place of the comma after it, or the line's end.
@@ -68,4 +69,10 @@ enum Turn {
     On(Look),
     Ended,
     Broken,
+}
+
+// Where a line ends, and where the next begins.
+pub struct Cut {
+    pub end: usize,
+    pub next: usize,
 }

@@ -4,7 +4,7 @@ use lib.ListN.{length}
 use Rattle.event_write.specs.Head.{mannerOf}
 use Rattle.midicsv.specs.PieceOfText.{textLimit}
 use Rattle.midicsv_record.specs.Row.{recordIn}
-use Rattle.midicsv_read.proofs.FrameLaws.{trimmed-size}
+use Rattle.midicsv_scan.proofs.FrameLaws.{trimmed-size}
 use Rattle.midicsv_read.proofs.TakeLineLaws.{near-wider, row-of, wrong-of, line-over, line-wrong, line-taken}
 use native.Mathlib.Omega.{arith}
 use mathlib.Core.Path.{sym, _∙_}

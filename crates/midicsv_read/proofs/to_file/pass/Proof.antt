@@ -1,7 +1,7 @@
 use Prim.Native.Nat.{_-_}
 use lib.ListN.{length}
 use Rattle.event_write.specs.Head.{mannerOf}
-use Rattle.midicsv_read.proofs.CutLaws.{cut-size}
+use Rattle.midicsv_scan.proofs.CutLaws.{cut-size}
 use Rattle.midicsv_read.proofs.TakeLaws.{sized}
 use Rattle.midicsv_read.proofs.PassLaws.{Going, going-first, going-on, going-bad, going-done, going-short, stopped}
 use native.Mathlib.Omega.{arith}

@@ -1,7 +1,7 @@
-use Rattle.midicsv_read.proofs.FrameLaws.{trim-cr, trim-none, trim-empty}
+use Rattle.midicsv_scan.proofs.FrameLaws.{trim-cr, trim-none, trim-empty}
 use borrow.Author.Needs.{needs}
-use Rattle.midicsv_read.proofs.frame.trim.Statement.{statement}
-use Rattle.midicsv_read.proofs.frame.trim.Tie as tie
+use Rattle.midicsv_scan.proofs.frame.trim.Statement.{statement}
+use Rattle.midicsv_scan.proofs.frame.trim.Tie as tie
 
 returns : tie.Need-returns
 returns c = trim-empty (c .before .args .line .now) (c .if1 .taken)

@@ -1,10 +1,10 @@
 use Prim.Native.Nat.{_-_}
 use lib.ListN.{length}
-use Rattle.midicsv_read.proofs.CutLaws.{Scanning, scan-first, scan-on, cut-feed, cut-last}
+use Rattle.midicsv_scan.proofs.CutLaws.{Scanning, scan-first, scan-on, cut-feed, cut-last}
 use native.Mathlib.Omega.{arith}
 use borrow.Author.Needs.{needs}
-use Rattle.midicsv_read.proofs.frame.line_at.Statement.{statement}
-use Rattle.midicsv_read.proofs.frame.line_at.Tie as tie
+use Rattle.midicsv_scan.proofs.frame.line_at.Statement.{statement}
+use Rattle.midicsv_scan.proofs.frame.line_at.Tie as tie
 
 abbrev Inv-loop : tie.InvT-loop
 Inv-loop text at end₀ end = Scanning text at end

@@ -2,12 +2,12 @@ use Prim.Native.Nat.{_-_, _≤_}
 use lib.ListN.{length, drop}
 use Rattle.midicsv.specs.Lines.{passedOver}
 use borrow.Author.Tests.{eq-eqb, ne-eqb, not-true, not-false}
-use Rattle.midicsv_read.proofs.FrameLaws.{over-blank, over-end, over-other}
+use Rattle.midicsv_scan.proofs.FrameLaws.{over-blank, over-end, over-other}
 use native.Mathlib.Omega.{arith}
 use mathlib.Core.Path.{_≡_, refl, sym, _∙_}
 use borrow.Author.Needs.{needs}
-use Rattle.midicsv_read.proofs.frame.passed_over.Statement.{statement}
-use Rattle.midicsv_read.proofs.frame.passed_over.Tie as tie
+use Rattle.midicsv_scan.proofs.frame.passed_over.Statement.{statement}
+use Rattle.midicsv_scan.proofs.frame.passed_over.Tie as tie
 
 abbrev Inv-loop : tie.InvT-loop
 Inv-loop line i₀ i = (i ≤ length line) × (passedOver (drop i line) ≡ passedOver line)

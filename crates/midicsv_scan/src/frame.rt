@@ -3,9 +3,9 @@ ghost use mathlib.Core.Path.{_≡_};
 ghost use Prim.Native.Nat.{_<_};
 ghost use lib.ListN.{length};
 ghost use Rattle.midicsv.specs.Lines.{trimmed, passedOver};
-ghost use Rattle.midicsv_read.specs.Cut.{CutAt};
+ghost use Rattle.midicsv_scan.specs.Cut.{CutAt};
 use super::Cut;
-use midicsv_scan::byte::is_blank;
+use super::byte::is_blank;
 
 // The first line from a place on; its LF is not part of it.
 pub fn line_at(text: &[u8], at: usize) -> Cut

@@ -11,7 +11,7 @@ use lib.Dec.{eqb}
 use borrow.Author.Tests.{ne-eqb}
 use Rattle.midicsv.specs.Lines.{linesOf}
 use Rattle.midicsv.proofs.LineLaws.{NoFeed, lines-feed, lines-last}
-use Rattle.midicsv_read.specs.Cut.{CutAt}
+use Rattle.midicsv_scan.specs.Cut.{CutAt}
 
 -- no LF from i to e
 pub record Scanning (s : List ℕ) (i e : ℕ) : Type 0 where

@@ -1,0 +1,45 @@
+-- A cell of a line as it is found, and what it is in the line.
+use mathlib.Core.Path.{_≡_}
+use Prim.Native.Nat.{ℕ, suc, _-_, _<_, _≤_}
+use mathlib.Core.Bool.{Bool, true}
+use mathlib.Core.List.{List, [], _∷_}
+use lib.ListN.{length, getD, take, drop}
+use Rattle.event.specs.Choice.{pick}
+use Rattle.midicsv.specs.Result.{Result, good, bad}
+use Rattle.sheet_table.specs.Cut.{cut}
+use Rattle.sheet_table.specs.Table.{doubled}
+use Rattle.sheet.specs.Code.Seen.{singled, seen, slice}
+use Rattle.sheet.specs.declared.Cell.{Cell}
+use Rattle.sheet.specs.declared.CellStep.{CellStep}
+use Rattle.sheet.specs.declared.CellStep.the-variants.{Found, Open}
+
+-- a cell in front of others
+unfoldable pub consCell : List ℕ → Result (List (List ℕ)) → Result (List (List ℕ))
+consCell c (good cs) = good (c ∷ cs)
+consCell c (bad n) = bad n
+
+-- the cells after one that ends here: none at the line's end, else those after the separator
+unfoldable pub cellsAfter : ℕ → List ℕ → Result (List (List ℕ))
+cellsAfter sep [] = good []
+cellsAfter sep (x ∷ l) = cut sep l
+
+-- the content of a cell by its bytes: in quotes two quotes are one
+unfoldable pub contentOf : Bool → List ℕ → List ℕ
+contentOf quoted raw = pick quoted (singled raw) raw
+
+-- in the part l, read in one way or the other, the cell c begins at the place at
+pub record CellAt (sep : ℕ) (twice : Bool) (l : List ℕ) (at : ℕ) (c : Cell) : Type 0 where
+  pub cells : cut sep (seen twice (drop at l)) ≡ consCell (contentOf (c .quoted) (seen twice (slice (c .from) (c .to) l))) (cellsAfter sep (seen twice (drop (c .next) l)))
+  -- the quotes of a quoted cell come in pairs
+  pub paired : c .quoted ≡ true → doubled (singled (seen twice (slice (c .from) (c .to) l))) ≡ seen twice (slice (c .from) (c .to) l)
+  -- the separator, or the line's end, is at next
+  pub parted : c .next < length l → getD l (c .next) 0 ≡ sep
+  pub after : at ≤ c .from
+  pub ordered : c .from ≤ c .to
+  pub before : c .to ≤ c .next
+  pub inside : c .next ≤ length l
+
+-- the first cell from a place on; or the line cannot be cut there
+unfoldable pub CellIs : ℕ → Bool → List ℕ → ℕ → CellStep → Type 0
+CellIs sep twice l at (Found c) = CellAt sep twice l at c
+CellIs sep twice l at Open = cut sep (seen twice (drop at l)) ≡ bad 22

@@ -1,0 +1,87 @@
+// Where a cell stands in a part of a line.
+ghost use mathlib.Core.Path.{_≡_};
+ghost use Prim.Native.Nat.{_≤_};
+ghost use lib.ListN.{length};
+ghost use Rattle.sheet.specs.Code.Cell.{CellIs};
+use super::Cell;
+use super::CellStep;
+use super::part::after_byte;
+use super::part::skip_beside;
+
+// The place of the separator from a place on, or the part's end: there a bare cell ends.
+fn bare_end(part: &[u8], at: usize, sep: u8, twice: bool) -> usize
+    requires { ⌜ at ≤ length (now part) ⌝ }
+{
+    let mut p = at;
+    while p < part.len() {
+        if part[p] == sep {
+            return p;
+        }
+        p = after_byte(part, p, twice);
+    }
+    p
+}
+
+// The place of the quote that closes a cell, from after its opening quote on; the part's end where none does.
+fn quote_end(part: &[u8], at: usize, twice: bool) -> usize
+    requires { ⌜ at ≤ length (now part) ⌝ }
+{
+    let mut p = at;
+    while p < part.len() {
+        let next = after_byte(part, p, twice);
+        if part[p] != 34 {
+            p = next;
+        } else {
+            if part.len() <= next {
+                return p;
+            }
+            if part[next] != 34 {
+                return p;
+            }
+            p = after_byte(part, next, twice);
+        }
+    }
+    p
+}
+
+// A quoted cell, from after its opening quote on: after the closing one only blanks may come.
+fn quoted_cell(part: &[u8], at: usize, sep: u8, twice: bool) -> CellStep
+    requires { ⌜ at ≤ length (now part) ⌝ }
+{
+    let to = quote_end(part, at, twice);
+    if part.len() <= to {
+        return CellStep::Open;
+    }
+    let next = skip_beside(part, after_byte(part, to, twice), sep);
+    if next < part.len() {
+        if part[next] != sep {
+            return CellStep::Open;
+        }
+    }
+    CellStep::Found(Cell {
+        from: at,
+        to,
+        quoted: true,
+        next,
+    })
+}
+
+// The cell from a place on.
+pub fn cell_at(part: &[u8], at: usize, sep: u8, twice: bool) -> CellStep
+    requires { ⌜ at ≤ length (now part) ⌝ }
+    ensures { λ r. ⌜ CellIs sep twice (now (part .entry)) at r ⌝ }
+{
+    let p = skip_beside(part, at, sep);
+    if p < part.len() {
+        if part[p] == 34 {
+            return quoted_cell(part, after_byte(part, p, twice), sep, twice);
+        }
+    }
+    let to = bare_end(part, at, sep, twice);
+    CellStep::Found(Cell {
+        from: at,
+        to,
+        quoted: false,
+        next: to,
+    })
+}
