@@ -1,6 +1,7 @@
 pub mod FieldLaws
 pub mod SpellLaws
 pub mod NameLaws
+pub mod WordLaws
 pub mod Example
 pub mod RowLaws
 pub mod LineBoundLaws

@@ -16,3 +16,4 @@ pub mod Lines
 pub mod Order
 pub mod PieceOfText
 pub mod TextReadings
+pub mod Code

@@ -1,13 +1,15 @@
-// Fields of a record written. Each writes only where there is room and answers the place after.
+// Fields of a record written, in a text or (`sheet`) in a sheet. Each writes only where there is room and answers the place after.
 ghost use mathlib.Core.Path.{_≡_};
 ghost use mathlib.Core.List.{[], _∷_};
 ghost use Prim.Native.Nat.{_<_, _^_};
 ghost use lib.ListN.{length};
 ghost use Rattle.event_write.specs.Written.{Written};
 ghost use Rattle.midicsv.specs.Field.{decimal, inOctal, escape, num, quoted};
-ghost use Rattle.midicsv.specs.Show.{quote, joined, further};
+ghost use Rattle.midicsv.specs.Show.{asText, gap, quote, joined, further};
+ghost use Rattle.midicsv.specs.Code.Form.{formOf};
 ghost use Rattle.midicsv.specs.Table.{sized};
 ghost use Rattle.midicsv.specs.Record.{dataFields, tailFields};
+use super::spell::put_cell_text;
 use event_write::bytes::put_byte;
 
 // A number in decimal: the digits before the last, then the last.
@@ -57,10 +59,10 @@ fn put_escaped(out: &mut [u8], at: usize, c: u8) -> usize
     put_byte(out, at, c)
 }
 
-// A text in its quotes.
-pub fn put_text(out: &mut [u8], at: usize, text: &[u8]) -> usize
+// A text in its quotes, as a text has it.
+fn put_text(out: &mut [u8], at: usize, text: &[u8]) -> usize
     requires { ⌜ at < 2 ^ 44 ⌝ ∗ ⌜ length (now text) < 2 ^ 42 ⌝ }
-    ensures { λ r. ⌜ Written (now (out .entry)) at (quote (now (text .entry))) (now (out .exit)) r ⌝ }
+    ensures { λ r. ⌜ Written (now (out .entry)) at (quote asText (now (text .entry))) (now (out .exit)) r ⌝ }
 {
     let mut next = put_byte(out, at, 34);
     let mut i = 0;
@@ -71,52 +73,58 @@ pub fn put_text(out: &mut [u8], at: usize, text: &[u8]) -> usize
     put_byte(out, next, 34)
 }
 
-// The comma and the space between two fields.
-fn put_comma(out: &mut [u8], at: usize) -> usize
+// What stands between two fields: a comma, and in a text a space.
+pub fn put_comma(out: &mut [u8], at: usize, sheet: bool) -> usize
     requires { ⌜ at < 2 ^ 47 ⌝ }
-    ensures { λ r. ⌜ Written (now (out .entry)) at (44 ∷ 32 ∷ []) (now (out .exit)) r ⌝ }
+    ensures { λ r. ⌜ Written (now (out .entry)) at (gap (formOf sheet)) (now (out .exit)) r ⌝ }
 {
     let a = put_byte(out, at, 44);
+    if sheet {
+        return a;
+    }
     put_byte(out, a, 32)
 }
 
 // A further number of a record.
-pub fn put_number_field(out: &mut [u8], at: usize, n: u32) -> usize
+pub fn put_number_field(out: &mut [u8], at: usize, n: u32, sheet: bool) -> usize
     requires { ⌜ at < 2 ^ 46 ⌝ }
-    ensures { λ r. ⌜ Written (now (out .entry)) at (joined (num n)) (now (out .exit)) r ⌝ }
+    ensures { λ r. ⌜ Written (now (out .entry)) at (joined (formOf sheet) (num n)) (now (out .exit)) r ⌝ }
 {
-    let a = put_comma(out, at);
+    let a = put_comma(out, at, sheet);
     put_decimal(out, a, n)
 }
 
 // A further text of a record.
-pub fn put_text_field(out: &mut [u8], at: usize, text: &[u8]) -> usize
+pub fn put_text_field(out: &mut [u8], at: usize, text: &[u8], sheet: bool) -> usize
     requires { ⌜ at < 2 ^ 43 ⌝ ∗ ⌜ length (now text) < 2 ^ 42 ⌝ }
-    ensures { λ r. ⌜ Written (now (out .entry)) at (joined (quoted (now (text .entry)))) (now (out .exit)) r ⌝ }
+    ensures { λ r. ⌜ Written (now (out .entry)) at (joined (formOf sheet) (quoted (now (text .entry)))) (now (out .exit)) r ⌝ }
 {
-    let a = put_comma(out, at);
+    let a = put_comma(out, at, sheet);
+    if sheet {
+        return put_cell_text(out, a, text);
+    }
     put_text(out, a, text)
 }
 
 // Data bytes, a field each.
-fn put_data(out: &mut [u8], at: usize, body: &[u8]) -> usize
+fn put_data(out: &mut [u8], at: usize, body: &[u8], sheet: bool) -> usize
     requires { ⌜ at < 2 ^ 44 ⌝ ∗ ⌜ length (now body) < 2 ^ 32 ⌝ }
-    ensures { λ r. ⌜ Written (now (out .entry)) at (further (dataFields (now (body .entry)))) (now (out .exit)) r ⌝ }
+    ensures { λ r. ⌜ Written (now (out .entry)) at (further (formOf sheet) (dataFields (now (body .entry)))) (now (out .exit)) r ⌝ }
 {
     let mut next = at;
     let mut i = 0;
     while i < body.len() {
-        next = put_number_field(out, next, body[i] as u32);
+        next = put_number_field(out, next, body[i] as u32, sheet);
         i = i + 1;
     }
     next
 }
 
 // Length and data.
-pub fn put_sized(out: &mut [u8], at: usize, body: &[u8]) -> usize
+pub fn put_sized(out: &mut [u8], at: usize, body: &[u8], sheet: bool) -> usize
     requires { ⌜ at < 2 ^ 43 ⌝ ∗ ⌜ length (now body) < 2 ^ 32 ⌝ }
-    ensures { λ r. ⌜ Written (now (out .entry)) at (further (tailFields sized (now (body .entry)))) (now (out .exit)) r ⌝ }
+    ensures { λ r. ⌜ Written (now (out .entry)) at (further (formOf sheet) (tailFields sized (now (body .entry)))) (now (out .exit)) r ⌝ }
 {
-    let a = put_number_field(out, at, body.len() as u32);
-    put_data(out, a, body)
+    let a = put_number_field(out, at, body.len() as u32, sheet);
+    put_data(out, a, body, sheet)
 }

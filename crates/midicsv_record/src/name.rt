@@ -1,40 +1,10 @@
 // The names of records, case ignored.
 ghost use mathlib.Core.Path.{_≡_};
 ghost use Prim.Native.Nat.{_≤_};
-ghost use Rattle.midicsv.specs.Names.{allNames, find, lower as small, sameName};
+ghost use Rattle.midicsv.specs.Names.{allNames, find, sameName};
 ghost use Rattle.midicsv.specs.Table.{spelled};
 ghost use Rattle.midicsv_record.specs.Row.{nameAt, nameAs};
-
-// A capital as its small letter.
-fn lower(c: u8) -> u8
-    ensures { λ r. ⌜ r ≡ small c ⌝ }
-{
-    if c < 65 {
-        return c;
-    }
-    if c > 90 {
-        return c;
-    }
-    c + 32
-}
-
-// Whether two names are the same.
-pub fn same_name(part: &[u8], name: &[u8]) -> bool
-    ensures { λ r. ⌜ r ≡ sameName (now (part .entry)) (now (name .entry)) ⌝ }
-{
-    // most names differ in length
-    if part.len() != name.len() {
-        return false;
-    }
-    let mut i = 0;
-    while i < part.len() {
-        if lower(part[i]) != lower(name[i]) {
-            return false;
-        }
-        i = i + 1;
-    }
-    true
-}
+use midicsv::word::same_name;
 
 // Whether this is the name so numbered in the list of names.
 fn is_name(part: &[u8], n: u8) -> bool

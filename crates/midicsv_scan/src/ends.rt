@@ -3,8 +3,8 @@ ghost use Prim.Native.Nat.{_≤_};
 ghost use lib.ListN.{length};
 ghost use Rattle.midicsv_scan.specs.Part.{Skipped, NameEnds, Closes, EndWithin};
 use super::PartEnd;
-use super::byte::is_blank;
-use super::byte::is_letter;
+use midicsv::byte::is_blank;
+use midicsv::byte::is_letter;
 
 // The place of the first byte from a place on that is no blank.
 pub fn skip_blanks(line: &[u8], at: usize) -> usize

@@ -8,13 +8,13 @@ ghost use Rattle.midicsv_scan.specs.Part.{quotedField, minusField, numbe
 use super::FieldStep;
 use super::NumberEnd;
 use super::PartEnd;
-use super::byte::is_digit;
-use super::byte::is_letter;
 use super::ends::closed;
 use super::ends::name_end;
 use super::ends::skip_blanks;
 use super::number::number_at;
 use super::text::text_end;
+use midicsv::byte::is_digit;
+use midicsv::byte::is_letter;
 
 // A text, from after its opening quote on.
 fn quoted_field(line: &[u8], at: usize) -> FieldStep

@@ -5,7 +5,7 @@ ghost use lib.ListN.{length};
 ghost use Rattle.midicsv.specs.Lines.{trimmed, passedOver};
 ghost use Rattle.midicsv_scan.specs.Cut.{CutAt};
 use super::Cut;
-use super::byte::is_blank;
+use midicsv::byte::is_blank;
 
 // The first line from a place on; its LF is not part of it.
 pub fn line_at(text: &[u8], at: usize) -> Cut

@@ -1,5 +1,4 @@
 // A line's fields: where they stand and what they are.
-pub mod byte; // byte.rt: kinds of bytes
 mod number; // number.rt: numbers
 mod text; // text.rt: quoted texts
 mod ends; // ends.rt: blanks, names, and what closes a field

@@ -6,7 +6,7 @@ ghost use Rattle.midicsv.specs.ReadField.{readDigits, readNumber};
 ghost use Rattle.midicsv_scan.specs.Part.{digitsAs, DigitsWithin, numberAs, NumberWithin};
 use super::DigitRun;
 use super::NumberEnd;
-use super::byte::is_digit;
+use midicsv::byte::is_digit;
 
 // The digits from a place on, of which there may be none. Ten of them fit 64 bits.
 fn digits(line: &[u8], at: usize) -> DigitRun

@@ -8,7 +8,7 @@ ghost use Rattle.midicsv_scan.specs.declared.Look.the-variants.{Plain, S
 use super::Look;
 use super::PartEnd;
 use super::Turn;
-use super::byte::is_octal;
+use midicsv::byte::is_octal;
 
 fn after_plain(c: u8) -> Turn
     ensures { λ r. ⌜ Turned Plain c r ⌝ }

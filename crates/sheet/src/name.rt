@@ -5,7 +5,7 @@ ghost use Rattle.sheet_table.specs.Table.{nameIn, textOfName};
 ghost use Rattle.sheet.specs.Code.Seen.{seen};
 ghost use Rattle.sheet.specs.Code.Cell.{contentOf};
 ghost use Rattle.sheet.specs.Code.Row.{placeAs};
-use midicsv_record::name::same_name;
+use midicsv::word::same_name;
 use midicsv_scan::FieldStep;
 use midicsv_scan::field::field_at;
 

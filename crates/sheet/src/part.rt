@@ -7,7 +7,7 @@ ghost use Rattle.sheet_table.specs.Cut.{blankBeside};
 ghost use Rattle.sheet_table.specs.Table.{isEmpty, isRemark};
 ghost use Rattle.sheet.specs.Code.Seen.{seen, Passed, SkippedTo};
 ghost use Rattle.sheet.specs.Code.Cell.{contentOf};
-use midicsv_scan::byte::is_blank;
+use midicsv::byte::is_blank;
 
 // The place after the byte at a place.
 pub fn after_byte(part: &[u8], at: usize, twice: bool) -> usize

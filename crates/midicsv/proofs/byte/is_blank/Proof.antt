@@ -1,7 +1,7 @@
 use Rattle.midicsv.specs.ReadField.{isBlank}
 use borrow.Author.Tests.{eq-eqb, ne-eqb}
-use Rattle.midicsv_scan.proofs.byte.is_blank.Statement.{statement}
-use Rattle.midicsv_scan.proofs.byte.is_blank.Tie as tie
+use Rattle.midicsv.proofs.byte.is_blank.Statement.{statement}
+use Rattle.midicsv.proofs.byte.is_blank.Tie as tie
 
 returns : tie.Need-returns
 unfolding isBlank

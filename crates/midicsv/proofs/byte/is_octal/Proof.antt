@@ -1,7 +1,7 @@
 use Rattle.midicsv.specs.ReadField.{isOctal}
 use borrow.Author.Tests.{le-leb, lt-leb}
-use Rattle.midicsv_scan.proofs.byte.is_octal.Statement.{statement}
-use Rattle.midicsv_scan.proofs.byte.is_octal.Tie as tie
+use Rattle.midicsv.proofs.byte.is_octal.Statement.{statement}
+use Rattle.midicsv.proofs.byte.is_octal.Tie as tie
 
 returns : tie.Need-returns
 unfolding isOctal

@@ -1,10 +1,10 @@
 use Rattle.event.specs.Choice.{pick}
 use Rattle.midicsv.specs.Names.{lower as small}
 use native.Mathlib.Omega.{arith}
 use borrow.Author.Tests.{le-leb, lt-leb}
 use borrow.Author.Needs.{needs}
-use Rattle.midicsv_record.proofs.name.lower.Statement.{statement}
-use Rattle.midicsv_record.proofs.name.lower.Tie as tie
+use Rattle.midicsv.proofs.word.lower.Statement.{statement}
+use Rattle.midicsv.proofs.word.lower.Tie as tie
 
 returns : tie.Need-returns
 unfolding small pick

@@ -1,7 +1,7 @@
 use Rattle.midicsv.specs.ReadField.{isDigit}
 use borrow.Author.Tests.{le-leb, lt-leb}
-use Rattle.midicsv_scan.proofs.byte.is_digit.Statement.{statement}
-use Rattle.midicsv_scan.proofs.byte.is_digit.Tie as tie
+use Rattle.midicsv.proofs.byte.is_digit.Statement.{statement}
+use Rattle.midicsv.proofs.byte.is_digit.Tie as tie
 
 returns : tie.Need-returns
 unfolding isDigit

@@ -1,12 +1,12 @@
 use Prim.Native.Nat.{_-_, _≤_}
 use lib.ListN.{length, drop}
 use Rattle.midicsv.specs.Names.{sameName}
-use Rattle.midicsv_record.proofs.NameLaws.{lengths-apart, letters-apart, letters-same, ends-same}
+use Rattle.midicsv.proofs.WordLaws.{lengths-apart, letters-apart, letters-same, ends-same}
 use native.Mathlib.Omega.{arith}
 use mathlib.Core.Path.{_≡_, sym, _∙_}
 use borrow.Author.Needs.{needs}
-use Rattle.midicsv_record.proofs.name.same_name.Statement.{statement}
-use Rattle.midicsv_record.proofs.name.same_name.Tie as tie
+use Rattle.midicsv.proofs.word.same_name.Statement.{statement}
+use Rattle.midicsv.proofs.word.same_name.Tie as tie
 
 abbrev Inv-loop : tie.InvT-loop
 Inv-loop part name i₀ i = (i ≤ length part) × (sameName (drop i part) (drop i name) ≡ sameName part name)

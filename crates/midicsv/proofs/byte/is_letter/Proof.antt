@@ -1,10 +1,10 @@
 use lib.Dec.{leb}
 use Rattle.event.proofs.ChoiceLaws.{by-test}
 use Rattle.midicsv.specs.ReadField.{isLetter}
 use native.Mathlib.Omega.{arith}
 use borrow.Author.Tests.{le-leb, lt-leb, ne-eqb}
-use Rattle.midicsv_scan.proofs.byte.is_letter.Statement.{statement}
-use Rattle.midicsv_scan.proofs.byte.is_letter.Tie as tie
+use Rattle.midicsv.proofs.byte.is_letter.Statement.{statement}
+use Rattle.midicsv.proofs.byte.is_letter.Tie as tie
 
 returns : tie.Need-returns
 unfolding isLetter
