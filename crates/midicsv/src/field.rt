@@ -96,7 +96,7 @@ pub fn put_number_field(out: &mut [u8], at: usize, n: u32, sheet: bool) -> usize
 
 // A further text of a record.
 pub fn put_text_field(out: &mut [u8], at: usize, text: &[u8], sheet: bool) -> usize
-    requires { ⌜ at < 2 ^ 43 ⌝ ∗ ⌜ length (now text) < 2 ^ 42 ⌝ }
+    requires { ⌜ at < 2 ^ 42 ⌝ ∗ ⌜ length (now text) < 2 ^ 42 ⌝ }
     ensures { λ r. ⌜ Written (now (out .entry)) at (joined (formOf sheet) (quoted (now (text .entry)))) (now (out .exit)) r ⌝ }
 {
     let a = put_comma(out, at, sheet);

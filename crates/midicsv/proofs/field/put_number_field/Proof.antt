@@ -1,5 +1,8 @@
 use Rattle.event_write.proofs.WriteLaws.{then}
 use Rattle.midicsv.specs.Show.{show}
+use Rattle.midicsv.specs.Code.Form.{formOf}
+use Rattle.midicsv.proofs.FieldLaws.{gap-length}
+use native.Mathlib.Omega.{arith}
 use borrow.Author.Needs.{needs}
 use Rattle.midicsv.proofs.field.put_number_field.Statement.{statement}
 use Rattle.midicsv.proofs.field.put_number_field.Tie as tie
@@ -8,7 +11,7 @@ put-comma-requires : tie.Need-put-comma-requires
 put-comma-requires c κs = search needs
 
 put-decimal-requires : tie.Need-put-decimal-requires
-put-decimal-requires c κs = search needs
+put-decimal-requires c κs = omega (arith, c .before .before .before .put-comma .ensures .place, gap-length (formOf (c .before .before .before .before .before .before .args .sheet)), c .before .before .before .before .before .before .pre)
 
 same-length : tie.Need-same-length
 same-length c = search needs

@@ -2,7 +2,7 @@ use Prim.Native.Nat.{_-_, _≤_}
 use mathlib.Core.List.{[], _∷_}
 use lib.ListN.{length}
 use Rattle.event_write.proofs.WriteLaws.{then, Remains, all-remains, less-remains, none-remains}
-use Rattle.midicsv.specs.Show.{quote}
+use Rattle.midicsv.specs.Show.{spellIn, quote}
 use Rattle.midicsv.proofs.FieldLaws.{TextLeft, text-more, text-end, text-length}
 use native.Mathlib.Omega.{arith}
 use mathlib.Core.Path.{_≡_, refl, _∙_}
@@ -47,7 +47,7 @@ same-length : tie.Need-same-length Inv-loop μ-loop
 same-length c = search needs
 
 returns : tie.Need-returns Inv-loop μ-loop
-unfolding quote
+unfolding quote spellIn
 returns c =
     let l = c .before .before .before .before .before .loop in
     let s = c .before .before .before .before .before .before .before .before .before .before .before .before .args .text .now in
