@@ -1,1 +1,3 @@
+pub mod CutLaws
+pub mod TableLinesLaws
 pub mod TableReadings
