@@ -5,15 +5,19 @@ use mathlib.Core.Bool.{Bool, true, false}
 use mathlib.Core.List.{List, [], _∷_, _++_}
 use lib.ListN.{length}
 use lib.Dec.{eqb}
-use borrow.Author.Tests.{eqb-true}
 use Rattle.event.specs.Choice.{pick}
 use Rattle.event.proofs.ChoiceLaws.{by-test}
 use Rattle.midicsv.specs.Lines.{onto, linesOf, trimmed}
 use Rattle.midicsv.specs.Result.{Result, good, bad}
 use Rattle.midicsv.proofs.AllLaws.{All, all-append}
 use Rattle.midicsv.proofs.LineLaws.{NoFeed, lines-feed}
-use Rattle.sheet_table.specs.Cut.{has, blankBeside, Within, bare, lead, quotes, aQuote, closed, opening, onCell, newCell, cutFrom, cut}
+use Rattle.sheet_table.specs.Cut.{blankBeside, Within, bare, lead, quotes, aQuote, closed, opening, onCell, newCell, cutFrom, cut}
 use Rattle.sheet_table.specs.Table.{isEmpty, allEmpty, keepBefore, dropEmpty, doubled, requote, plainCell, plainCells, fieldsTo, TextPlace, nowhere, after, textAt, rowFields, furtherJoined, joined, rowLine, ofCut, isRemark, lineBy, cellsLine, tableLine, sepOf, unmarked, tableLines, tableOf, tableText}
+
+list-pick : (P : ℕ → Type 0) (t : Bool) (x y : List ℕ) → All P x → All P y → All P (pick t x y)
+unfolding pick
+list-pick P true x y a b = a
+list-pick P false x y a b = b
 
 -- ---- a property of the bytes of a row, of a quote and of a comma holds of the bytes of its line
 
@@ -25,11 +29,6 @@ module _ (P : ℕ → Type 0) (quote : P 34) (comma : P 44) where
   abbrev CellsIn : Result (List (List ℕ)) → Type 0
   CellsIn (good cs) = AllIn cs
   CellsIn (bad n) = Unit {0}
-
-  list-pick : (t : Bool) (x y : List ℕ) → All P x → All P y → All P (pick t x y)
-  unfolding pick
-  list-pick true x y a b = a
-  list-pick false x y a b = b
 
   cells-pick : (t : Bool) (x y : Result (List (List ℕ))) → CellsIn x → CellsIn y → CellsIn (pick t x y)
   unfolding pick
@@ -76,7 +75,7 @@ module _ (P : ℕ → Type 0) (quote : P 34) (comma : P 44) where
   doubled-in : (c : List ℕ) → All P c → All P (doubled c)
   unfolding doubled
   doubled-in [] a = tt
-  doubled-in (x ∷ c) a = list-pick (eqb x 34) _ _ (quote, (quote, doubled-in c (a .1))) (a .0, doubled-in c (a .1))
+  doubled-in (x ∷ c) a = list-pick P (eqb x 34) _ _ (quote, (quote, doubled-in c (a .1))) (a .0, doubled-in c (a .1))
 
   requote-in : (c : List ℕ) → All P c → All P (requote c)
   unfolding requote
@@ -84,7 +83,7 @@ module _ (P : ℕ → Type 0) (quote : P 34) (comma : P 44) where
 
   plain-in : (c : List ℕ) → All P c → All P (plainCell c)
   unfolding plainCell
-  plain-in c a = list-pick _ _ _ (requote-in c a) a
+  plain-in c a = list-pick P _ _ _ (requote-in c a) a
 
   plains-in : (cs : List (List ℕ)) → AllIn cs → AllIn (plainCells cs)
   unfolding plainCells
@@ -135,12 +134,12 @@ module _ (P : ℕ → Type 0) (quote : P 34) (comma : P 44) where
 
     by-in : (sep : ℕ) (l : List ℕ) → All P l → All P (lineBy f sep l)
     unfolding lineBy
-    by-in sep l a = list-pick (isRemark sep l) _ _ a (of-in (cut sep l) (cut-in sep l a))
+    by-in sep l a = list-pick P (isRemark sep l) _ _ a (of-in (cut sep l) (cut-in sep l a))
 
   alone-in : (cs : List (List ℕ)) → AllIn cs → All P (cellsLine cs)
   unfolding cellsLine
   alone-in [] a = tt
-  alone-in (c ∷ cs) a = list-pick (allEmpty cs) _ _ (by-in rowLine row-in 44 c (a .0)) (row-in (c ∷ cs) a)
+  alone-in (c ∷ cs) a = list-pick P (allEmpty cs) _ _ (by-in rowLine row-in 44 c (a .0)) (row-in (c ∷ cs) a)
 
   pub line-all : (sep : ℕ) (l : List ℕ) → All P l → All P (tableLine sep l)
   unfolding tableLine
@@ -151,11 +150,7 @@ module _ (P : ℕ → Type 0) (quote : P 34) (comma : P 44) where
 pub trimmed-all : (P : ℕ → Type 0) (l : List ℕ) → All P l → All P (trimmed l)
 unfolding trimmed
 trimmed-all P [] a = tt
-trimmed-all P (c ∷ []) a = trimmed-one (eqb c 13)
-  where
-    trimmed-one : (t : Bool) → All P (pick t [] (c ∷ []))
-    trimmed-one true = tt
-    trimmed-one false = a
+trimmed-all P (c ∷ []) a = list-pick P (eqb c 13) _ _ tt a
 trimmed-all P (c ∷ d ∷ l) a = (a .0, trimmed-all P (d ∷ l) (a .1))
 
 -- ---- the lines
