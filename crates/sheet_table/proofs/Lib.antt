@@ -1,3 +1,5 @@
+pub mod BareFieldLaws
 pub mod CutLaws
+pub mod QuotedFieldLaws
 pub mod TableLinesLaws
 pub mod TableReadings
