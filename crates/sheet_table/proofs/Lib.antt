@@ -1,5 +1,6 @@
 pub mod BareFieldLaws
 pub mod CutLaws
+pub mod FieldCellLaws
 pub mod QuotedFieldLaws
 pub mod TableLinesLaws
 pub mod TableReadings

@@ -72,7 +72,7 @@ module _ (P : ℕ → Type 0) (quote : P 34) (comma : P 44) where
   unfolding cut
   cut-in sep l a = from-in sep l (opening sep l) a
 
-  doubled-in : (c : List ℕ) → All P c → All P (doubled c)
+  pub doubled-in : (c : List ℕ) → All P c → All P (doubled c)
   unfolding doubled
   doubled-in [] a = tt
   doubled-in (x ∷ c) a = list-pick P (eqb x 34) _ _ (quote, (quote, doubled-in c (a .1))) (a .0, doubled-in c (a .1))
