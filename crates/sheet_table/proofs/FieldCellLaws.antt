@@ -62,6 +62,7 @@ pub record FieldCell (l : List ℕ) (f : Field) (r : List ℕ) : Type 0 where
   pub cuts : cut 44 l ≡ consCell cell (cellsAfter 44 r)
   pub part : List ℕ
   pub whole : l ≡ part ++ r
+  pub ends : Ends r
   pub noReturn : NoReturn part
   pub same : isText f ≡ false → cell ≡ part
 
@@ -152,6 +153,7 @@ module _ (b x e : List ℕ) (c : ℕ) (f : Field) (before : Blanks b) (after : B
         cuts = bare-opened _ raw r (opens-bare b c (x ++ (e ++ r)) before first (inside .0 .1)) (sym (raw-whole r)) (raw-bare .comma) (ends-follow r h);
         part = raw;
         whole = sym (raw-whole r);
+        ends = h;
         noReturn = inside-return raw raw-inside;
         same = λ q. refl;
       }
@@ -242,6 +244,7 @@ module _ (b : List ℕ) (before : Blanks b) (f : Field) (r : List ℕ) where
         cuts = lead-cell 44 b (w .cell) (z .blanks) r parts-comma (blanks-beside b before) (blanks-beside (z .blanks) (z .blank)) (ends-follow r (z .ends));
         part = b ++ (34 ∷ (doubled (w .cell) ++ (34 ∷ (z .blanks))));
         whole = text-part (w .cell) (z .blanks);
+        ends = z .ends;
         noReturn = text-return (w .cell) (z .blanks) (w .noReturn) (z .blank);
         same = λ y. absurd (false≢true (sym y ∙ quoted-text d));
       })

@@ -2,5 +2,6 @@ pub mod BareFieldLaws
 pub mod CutLaws
 pub mod FieldCellLaws
 pub mod QuotedFieldLaws
+pub mod TableBoundLaws
 pub mod TableLinesLaws
 pub mod TableReadings
