@@ -2,6 +2,7 @@ pub mod BareFieldLaws
 pub mod CutLaws
 pub mod FieldCellLaws
 pub mod QuotedFieldLaws
+pub mod RecordKeptLaws
 pub mod RowKeptLaws
 pub mod TableBoundLaws
 pub mod TableLinesLaws

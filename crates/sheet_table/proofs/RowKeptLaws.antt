@@ -1,4 +1,4 @@
--- The line of a record goes through the table unharmed: the line that is put back is read as the same record.
+-- The cells of a line whose fields are read; and cells, put back and joined, that are read as their fields.
 use mathlib.Core.Path.{_≡_, refl, sym, ap, ap₂, _∙_}
 use Prim.Native.Nat.{ℕ, zero, suc, _+_, _≤_, _<_}
 use mathlib.Core.Bool.{Bool, true, false, false≢true, _&&_, _||_}
@@ -149,22 +149,22 @@ plain-same : (c : List ℕ) (f : Field) → Bare c f → plainCell c ≡ c
 unfolding plainCell
 plain-same c f b = pick-false _ _ (ap₂ _||_ (b .comma) (b .quote))
 
-to-bare : (c : List ℕ) (f : Field) → isText f ≡ false → Holds c f → Bare c f
+pub to-bare : (c : List ℕ) (f : Field) → isText f ≡ false → Holds c f → Bare c f
 to-bare c f t (barely b) = b
 to-bare c f t (inQuotes u r) = absurd (false≢true (sym t ∙ u))
 
-plain-reads : (c : List ℕ) (f : Field) → isText f ≡ false → Holds c f → Reads (plainCell c) f
+pub plain-reads : (c : List ℕ) (f : Field) → isText f ≡ false → Holds c f → Reads (plainCell c) f
 plain-reads c f t h y e = let b = to-bare c f t h in ap (λ z. readField (z ++ y)) (plain-same c f b) ∙ b .reads y e
 
-quote-reads : (c : List ℕ) (f : Field) → isText f ≡ true → Holds c f → Reads (requote c) f
+pub quote-reads : (c : List ℕ) (f : Field) → isText f ≡ true → Holds c f → Reads (requote c) f
 quote-reads c f t (barely b) = absurd (false≢true (sym (b .noText) ∙ t))
 quote-reads c f t (inQuotes u r) = r
 
-abbrev AllPlain : List Field → Type 0
+abbrev pub AllPlain : List Field → Type 0
 AllPlain [] = Unit {0}
 AllPlain (f ∷ fs) = (isText f ≡ false) × AllPlain fs
 
-plains-read : (cs : List (List ℕ)) (fs : List Field) → AllPlain fs → HoldAll cs fs → ReadAll (plainCells cs) fs
+pub plains-read : (cs : List (List ℕ)) (fs : List Field) → AllPlain fs → HoldAll cs fs → ReadAll (plainCells cs) fs
 unfolding plainCells
 plains-read [] [] a h = tt
 plains-read [] (f ∷ fs) a h = absurd h
@@ -176,7 +176,7 @@ unfolding keepBefore
 keep-some c [] e = pick-false _ _ e
 keep-some c (d ∷ ds) e = refl
 
-drop-none : (cs : List (List ℕ)) (fs : List Field) → AllPlain fs → HoldAll cs fs → dropEmpty cs ≡ cs
+pub drop-none : (cs : List (List ℕ)) (fs : List Field) → AllPlain fs → HoldAll cs fs → dropEmpty cs ≡ cs
 unfolding dropEmpty
 drop-none [] [] a h = refl
 drop-none [] (f ∷ fs) a h = absurd h
