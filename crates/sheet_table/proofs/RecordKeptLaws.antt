@@ -21,6 +21,7 @@ use Rattle.midicsv.proofs.ResultLaws.{not-good, next-good, test-good}
 use Rattle.midicsv.proofs.RowAcceptedLaws.{counted-good}
 use Rattle.sheet_table.specs.Cut.{has, cut}
 use Rattle.sheet_table.specs.Table.{isEmpty, allEmpty, dropEmpty, requote, plainCell, plainCells, fieldsTo, TextPlace, nowhere, after, textFrom, textOfName, nameIn, textAt, rowFields, joined, rowLine, cellsLine}
+use Rattle.sheet_table.proofs.BareFieldLaws.{NoReturn}
 use Rattle.sheet_table.proofs.FieldCellLaws.{isText, Bare, Holds}
 use Rattle.sheet_table.proofs.RowKeptLaws.{HoldAll, Row, fields-row, ReadAll, joined-read, to-bare, plain-reads, quote-reads, AllPlain, plains-read, drop-none}
 
@@ -186,6 +187,14 @@ no-text i (key ∷ cs) t p = no-text (suc i) cs t p
 no-text i (mode ∷ cs) t p = absurd (false≢true p)
 no-text i (freeType ∷ cs) t p = no-text (suc i) cs t p
 
+text-third : (cs : List Column) (t : Tail) → cs ≡ [] → t ≡ oneText → textFrom 3 cs t ≡ after 3
+unfolding textFrom
+text-third cs t p q = ap₂ (textFrom 3) p q
+
+text-fourth : (cs : List Column) (t : Tail) → cs ≡ key ∷ mode ∷ [] → t ≡ none → textFrom 3 cs t ≡ after 4
+unfolding textFrom
+text-fourth cs t p q = ap₂ (textFrom 3) p q
+
 all-back : (cs : List (List ℕ)) (fs : List Field) → AllPlain fs → HoldAll cs fs → ReadAll (rowFields nowhere cs) fs
 unfolding rowFields
 all-back cs fs a h = rw (drop-none cs fs a h) (plains-read cs fs a h)
@@ -219,3 +228,106 @@ module _ (x y z : List ℕ) (a b c : Field) (ta : isText a ≡ false) (tb : isTe
       next-good (readColumn mode g) _ m qm (λ j qj e3.
       (plain-reads x a ta (h .0), (plain-reads y b tb (h .1 .0), (plain-reads z c tc (h .1 .1 .0),
       (plain-reads w f (key-plain f i qi) (h .1 .1 .1 .0), (quote-reads u g (mode-text g j qj) (h .1 .1 .1 .1 .0), tt))))))))
+
+  -- the row of the name n
+  sort-back : (n : RecordName) (cs : List (List ℕ)) (fs : List Field) (v : Values) → Sort n → Fits (length (shape n .columns)) (shape n .tail) fs
+      → readColumns (shape n .columns) (shape n .tail) fs ≡ good v → HoldAll (x ∷ y ∷ z ∷ cs) (a ∷ b ∷ c ∷ fs)
+      → ReadAll (rowFields (textFrom 3 (shape n .columns) (shape n .tail)) (x ∷ y ∷ z ∷ cs)) (a ∷ b ∷ c ∷ fs)
+  unfolding Fits readColumns
+  sort-back n cs fs v (numeric p) k e h =
+      rw (no-text 3 (shape n .columns) (shape n .tail) p)
+      (all-back (x ∷ y ∷ z ∷ cs) (a ∷ b ∷ c ∷ fs) (ta, (tb, (tc, columns-plain (shape n .columns) (shape n .tail) fs v p k e))) h)
+  sort-back n cs fs v (textual p q) k e h =
+      let k2 : Fits 0 oneText fs = rw (p, q) at k in
+      let e2 : readColumns [] oneText fs ≡ good v = rw (p, q) at e in
+      rw (text-third (shape n .columns) (shape n .tail) p q) (next-good (readTail oneText fs) _ v e2 (λ d u w. text-back cs fs d k2 u h))
+  sort-back n cs fs v (keyed p q) k e h =
+      let k2 : Fits 2 none fs = rw (p, q) at k in
+      let e2 : readColumns (key ∷ mode ∷ []) none fs ≡ good v = rw (p, q) at e in
+      rw (text-fourth (shape n .columns) (shape n .tail) p q) (key-back cs fs v k2 e2 h)
+
+-- ---- the name is found again, and the row is no single cell
+
+append-none : (l : List ℕ) → l ++ [] ≡ l
+append-none [] = refl
+append-none (x ∷ l) = ap (λ z. x ∷ z) (append-none l)
+
+name-again : (z : List ℕ) (c : Field) (n : RecordName) → nameFrom c ≡ good n → Bare z c → nameIn (readField z) ≡ good n
+unfolding nameIn
+name-again z c n e b = ap (λ w. nameIn (readField w)) (sym (append-none z)) ∙ ap nameIn (b .reads [] tt) ∙ e
+
+text-place : (x y z : List ℕ) (cs : List (List ℕ)) (n : RecordName) → nameIn (readField z) ≡ good n → textAt (x ∷ y ∷ z ∷ cs) ≡ textFrom 3 (shape n .columns) (shape n .tail)
+unfolding textAt textOfName
+text-place x y z cs n e = ap textOfName e
+
+-- what the cells of a record's line are
+record Back (cs : List (List ℕ)) (fs : List Field) : Type 0 where
+  read : ReadAll (rowFields (textAt cs) cs) fs
+  alone : cellsLine cs ≡ rowLine cs
+
+not-alone : (x y : List ℕ) (cs : List (List ℕ)) → isEmpty y ≡ false → cellsLine (x ∷ y ∷ cs) ≡ rowLine (x ∷ y ∷ cs)
+unfolding cellsLine allEmpty
+not-alone x y cs e = pick-false _ _ (ap (λ z. z && allEmpty cs) e)
+
+named-back : (x y z : List ℕ) (cs : List (List ℕ)) (a b c : Field) (fs : List Field) (n : RecordName) (v : Values) → isText a ≡ false → isText b ≡ false
+    → nameFrom c ≡ good n → Fits (length (shape n .columns)) (shape n .tail) fs → readColumns (shape n .columns) (shape n .tail) fs ≡ good v
+    → HoldAll (x ∷ y ∷ z ∷ cs) (a ∷ b ∷ c ∷ fs) → Back (x ∷ y ∷ z ∷ cs) (a ∷ b ∷ c ∷ fs)
+named-back x y z cs a b c fs n v ta tb q k e h =
+    let tc = name-plain c n q in
+    let place = text-place x y z cs n (name-again z c n q (to-bare z c tc (h .1 .1 .0))) in
+    record { read = rw place (sort-back x y z a b c ta tb tc n cs fs v (sort n) k e h); alone = not-alone x y (z ∷ cs) (to-bare y b tb (h .1 .0) .some) }
+
+record-back : (cs : List (List ℕ)) (fs : List Field) (r : Record) → recordOf fs ≡ good r → HoldAll cs fs → Back cs fs
+unfolding recordOf
+record-back cs [] r e h = not-good e
+record-back cs (a ∷ []) r e h = not-good e
+record-back cs (a ∷ b ∷ []) r e h = not-good e
+record-back [] (a ∷ b ∷ c ∷ fs) r e h = absurd h
+record-back (x ∷ []) (a ∷ b ∷ c ∷ fs) r e h = absurd (h .1)
+record-back (x ∷ y ∷ []) (a ∷ b ∷ c ∷ fs) r e h = absurd (h .1 .1)
+record-back (x ∷ y ∷ z ∷ cs) (a ∷ b ∷ c ∷ fs) r e h =
+    next-good (nameFrom c) _ r e (λ n q e1.
+    let k = counted-fits (length (shape n .columns)) (shape n .tail) fs _ r e1 in
+    next-good (readColumn (range 0 65535) a) _ r (counted-good _ _ fs _ r e1) (λ i qa e2.
+    next-good (readColumn (range 0 4294967295) b) _ r e2 (λ j qb e3.
+    next-good (readColumns (shape n .columns) (shape n .tail) fs) _ r e3 (λ v qv e4.
+    named-back x y z cs a b c fs n v (number-plain 0 65535 a i qa) (number-plain 0 4294967295 b j qb) q k qv h))))
+
+-- ---- the line
+
+-- the line of cells that were cut is read as the record
+fields-back : (cs : List (List ℕ)) (fs : List Field) (r : Record) → recordOf fs ≡ good r → Back cs fs → readLine (cellsLine cs) ≡ good r
+unfolding readLine ofFields rowLine recordOf
+fields-back cs [] r e w = not-good e
+fields-back cs (f ∷ fs) r e w = ap (λ z. ofFields (allFields z)) (w .alone) ∙ ap ofFields (joined-read (rowFields (textAt cs) cs) f fs (w .read)) ∙ e
+
+two-fields : (fs : List Field) (r : Record) → recordOf fs ≡ good r → 2 ≤ length fs
+unfolding recordOf
+two-fields [] r e = not-good e
+two-fields (a ∷ []) r e = not-good e
+two-fields (a ∷ b ∷ fs) r e = omega arith
+
+-- a line that is read as r: its cells are put back so that they are read as r; it has a comma, and no CR
+pub record Kept (l : List ℕ) (r : Record) : Type 0 where
+  pub cells : List (List ℕ)
+  pub cuts : cut 44 l ≡ good cells
+  pub back : readLine (cellsLine cells) ≡ good r
+  pub noReturn : NoReturn l
+  pub comma : has 44 l ≡ true
+
+of-kept : (l : List ℕ) (m : Outcome (List Field)) (r : Record) → allFields l ≡ m → ofFields m ≡ good r → Kept l r
+unfolding ofFields
+of-kept l (ok fs q) r e z =
+    let w = fields-row l fs q e in
+    record {
+      cells = w .cells;
+      cuts = w .cuts;
+      back = fields-back (w .cells) fs r z (record-back (w .cells) fs r z (w .holds));
+      noReturn = w .noReturn;
+      comma = w .comma (two-fields fs r z);
+    }
+of-kept l (refused n p) r e z = not-good z
+
+pub line-kept : (l : List ℕ) (r : Record) → readLine l ≡ good r → Kept l r
+unfolding readLine
+line-kept l r e = of-kept l (allFields l) r refl e
