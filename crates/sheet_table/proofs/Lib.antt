@@ -1,3 +1,4 @@
+pub mod AnyKeptLaws
 pub mod BareFieldLaws
 pub mod CutLaws
 pub mod FieldCellLaws

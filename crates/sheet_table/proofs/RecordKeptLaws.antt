@@ -2,7 +2,7 @@
 use mathlib.Core.Path.{_≡_, refl, sym, ap, ap₂, _∙_}
 use Prim.Native.Nat.{ℕ, zero, suc, _+_, _≤_, _<_}
 use mathlib.Core.Bool.{Bool, true, false, false≢true, _&&_, _||_}
-use mathlib.Core.List.{List, [], _∷_, _++_}
+use mathlib.Core.List.{List, [], _∷_, _++_, append-nil}
 use native.Mathlib.Omega.{arith}
 use lib.ListN.{length, getD}
 use lib.Dec.{eqb}
@@ -248,13 +248,9 @@ module _ (x y z : List ℕ) (a b c : Field) (ta : isText a ≡ false) (tb : isTe
 
 -- ---- the name is found again, and the row is no single cell
 
-append-none : (l : List ℕ) → l ++ [] ≡ l
-append-none [] = refl
-append-none (x ∷ l) = ap (λ z. x ∷ z) (append-none l)
-
 name-again : (z : List ℕ) (c : Field) (n : RecordName) → nameFrom c ≡ good n → Bare z c → nameIn (readField z) ≡ good n
 unfolding nameIn
-name-again z c n e b = ap (λ w. nameIn (readField w)) (sym (append-none z)) ∙ ap nameIn (b .reads [] tt) ∙ e
+name-again z c n e b = ap (λ w. nameIn (readField w)) (sym (append-nil z)) ∙ ap nameIn (b .reads [] tt) ∙ e
 
 text-place : (x y z : List ℕ) (cs : List (List ℕ)) (n : RecordName) → nameIn (readField z) ≡ good n → textAt (x ∷ y ∷ z ∷ cs) ≡ textFrom 3 (shape n .columns) (shape n .tail)
 unfolding textAt textOfName

@@ -2,7 +2,7 @@
 use mathlib.Core.Path.{_≡_, refl, sym, ap, _∙_}
 use Prim.Native.Nat.{ℕ, zero, suc, _+_, _-_, _*_, _<_, _≤_}
 use mathlib.Core.Bool.{Bool, true, false, false≢true, _&&_, _||_}
-use mathlib.Core.List.{List, [], _∷_, _++_}
+use mathlib.Core.List.{List, [], _∷_, _++_, append-nil}
 use native.Mathlib.Omega.{arith}
 use lib.ListN.{length, length-append}
 use lib.Dec.{eqb}
@@ -199,15 +199,11 @@ holds-slack : (c : List ℕ) (f : Field) → isText f ≡ false → 2 ≤ nameSi
 holds-slack c f t h (barely b) = bare-slack c (b .comma) (b .quote) (omega (arith, b .size))
 holds-slack c f t h (inQuotes u r) = absurd (false≢true (sym t ∙ u))
 
-append-none : (l : List ℕ) → l ++ [] ≡ l
-append-none [] = refl
-append-none (x ∷ l) = ap (λ z. x ∷ z) (append-none l)
-
 read-slack : (c : List ℕ) (f : Field) (n : RecordName) → readField c ≡ ok f [] → nameFrom f ≡ good n → length (plainCell c) + 3 ≤ weigh c
 read-slack c f n e q =
     let w = field-cell c f [] e in
     let (t, h) = name-long f n q in
-    let same : w .cell ≡ c = w .same t ∙ sym (append-none (w .part)) ∙ sym (w .whole) in
+    let same : w .cell ≡ c = w .same t ∙ sym (append-nil (w .part)) ∙ sym (w .whole) in
     rw (← same) (holds-slack (w .cell) f t h (w .holds))
 
 in-slack : (c : List ℕ) (m : Outcome Field) (n : RecordName) → readField c ≡ m → nameIn m ≡ good n → length (plainCell c) + 3 ≤ weigh c
