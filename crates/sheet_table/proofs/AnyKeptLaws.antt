@@ -1,31 +1,31 @@
 -- Any text that has a piece may go through tableText: it has the same piece afterwards.
 use mathlib.Core.Path.{_≡_, refl, sym, ap, ap₂, _∙_}
 use Prim.Native.Nat.{ℕ, suc}
-use mathlib.Core.Bool.{Bool, true, false, false≢true, _&&_, _||_, not}
+use mathlib.Core.Bool.{Bool, true, false, _&&_, _||_}
 use mathlib.Core.List.{List, [], _∷_, _++_, append-nil}
 use lib.ListN.{length}
 use lib.Dec.{eqb}
 use borrow.Author.Tests.{eqb-true}
 use Rattle.event.specs.Choice.{pick}
-use Rattle.event.specs.Outcome.{Outcome, ok, refused, andThen, check}
+use Rattle.event.specs.Outcome.{Outcome, ok, refused, andThen}
 use Rattle.event.proofs.ChoiceLaws.{by-test, pick-true, pick-false, and-both}
 use Rattle.event.proofs.OutcomeLaws.{not-ok, andThen-ok}
 use Rattle.smf.specs.Piece.{Piece}
 use Rattle.midicsv.specs.Field.{Field}
 use Rattle.midicsv.specs.Record.{Record}
-use Rattle.midicsv.specs.Result.{Result, good, bad, next}
+use Rattle.midicsv.specs.Result.{Result, good, bad}
 use Rattle.midicsv.specs.ReadField.{isBlank, isDigit, isLetter, skip, fieldOf, readField, onward, readFields, allFields}
 use Rattle.midicsv.specs.ReadRecord.{ofFields, readLine}
 use Rattle.midicsv.specs.Lines.{onto, linesOf, trimmed, isComment, passedOver}
 use Rattle.midicsv.specs.Order.{State, first, step}
-use Rattle.midicsv.specs.PieceOfText.{Told, skipped as passed, told, framed, tellLine, stepTold, advance, ended, runLines, pieceTold, pieceOfText}
+use Rattle.midicsv.specs.PieceOfText.{skipped as passed, told, framed, tellLine, stepTold, advance, runLines, pieceTold, pieceOfText}
 use Rattle.midicsv.proofs.ResultLaws.{not-good, next-good}
-use Rattle.sheet_table.specs.Cut.{has, skipBeside, begins, bare, lead, opening, cutFrom, cut, isNone}
+use Rattle.sheet_table.specs.Cut.{has, begins, bare, lead, opening, cutFrom, cut, isNone}
 use Rattle.sheet_table.specs.Table.{isEmpty, allEmpty, keepBefore, dropEmpty, plainCells, textAt, rowFields, joined, rowLine, ofCut, isRemark, lineBy, cellsLine, tableLine, sepIn, sepOf, unmarked, tableText}
-use Rattle.sheet_table.proofs.CutLaws.{parts-comma, Follows, cellsAfter, consCell, or-left, or-right, bare-cut}
+use Rattle.sheet_table.proofs.CutLaws.{parts-comma, Follows, cellsAfter, consCell, bare-cut}
 use Rattle.sheet_table.proofs.TableLinesLaws.{line-all, eachRow, table-lines}
-use Rattle.sheet_table.proofs.BareFieldLaws.{inside-has, NoReturn, skip-same, Blanks, blanks-inside, skipped}
-use Rattle.sheet_table.proofs.RecordKeptLaws.{Kept, line-kept}
+use Rattle.sheet_table.proofs.BareFieldLaws.{inside-has, and-true, NoReturn, skip-same, blanks-inside, skipped}
+use Rattle.sheet_table.proofs.RecordKeptLaws.{line-kept}
 
 -- ---- a line that is read is not passed over
 
@@ -59,10 +59,6 @@ read-kept l r e = of-kept l (allFields l) r refl e
 
 -- ---- remarks
 
-and-true : (a : Bool) → (a && true) ≡ a
-and-true true = refl
-and-true false = refl
-
 -- what rule 3 asks, of a line from its first byte that is no blank
 abbrev remarkIn : List ℕ → Bool
 remarkIn k = begins 35 k || (begins 59 k && true)
@@ -78,10 +74,6 @@ remark-comment c k = ap (λ z. eqb c 35 || z) (and-true (eqb c 59))
 none-remark : remarkIn [] ≡ false
 unfolding begins
 none-remark = refl
-
-none-comment : isComment [] ≡ true
-unfolding isComment
-none-comment = refl
 
 -- a line that is passed over is blank, or stands
 passed-cases : {X : Type 0} (k : List ℕ) → isComment k ≡ true → (k ≡ [] → X) → (remarkIn k ≡ true → X) → X

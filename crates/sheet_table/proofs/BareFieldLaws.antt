@@ -1,24 +1,21 @@
 -- Numbers and names that are read: their bytes, which are read so again before any blank, comma or end.
 use mathlib.Core.Path.{_≡_, refl, sym, ap, ap₂, _∙_}
 use Prim.Native.Nat.{ℕ, zero, suc, _+_, _-_, _*_, _≤_}
-use mathlib.Core.Bool.{Bool, true, false, false≢true, _&&_, _||_, not}
-use mathlib.Core.List.{List, [], _∷_, _++_, append-assoc}
+use mathlib.Core.Bool.{Bool, true, false, _&&_, _||_}
+use mathlib.Core.List.{List, [], _∷_, _++_}
 use native.Mathlib.Omega.{arith}
-use lib.ListN.{length, length-append}
 use lib.Dec.{leb, eqb}
 use borrow.Author.Tests.{leb-true, eqb-true, ne-eqb}
 use Rattle.event.specs.Choice.{pick}
-use Rattle.event.specs.Outcome.{Outcome, ok, refused, andThen, check}
+use Rattle.event.specs.Outcome.{Outcome, ok}
 use Rattle.event.proofs.ChoiceLaws.{by-test, pick-true, pick-false, pick-cases, or-cases, and-both}
 use Rattle.event.proofs.OutcomeLaws.{not-ok, ok-same, andThen-ok, andThen-eq, check-ok, check-eq}
-use Rattle.midicsv.specs.Field.{Field, num, minus, name, quoted}
-use Rattle.midicsv.specs.ReadField.{isBlank, isDigit, isLetter, skip, push, readDigits, readNumber, negative, Seen, plain, aQuote, aSlash, octal1, octal2, isOctal, readQuoted, readName, atComma, finish, fieldOf, readField}
-use Rattle.midicsv.proofs.AllLaws.{All, all-append}
-use Rattle.midicsv.proofs.FieldReadLaws.{Ends, letter-range, high-digit, not-blank, finish-ends}
+use Rattle.midicsv.specs.ReadField.{isBlank, isDigit, isLetter, skip, push, readDigits, readNumber, readName}
+use Rattle.midicsv.proofs.AllLaws.{All}
+use Rattle.midicsv.proofs.FieldReadLaws.{Ends, letter-range}
 use Rattle.midicsv.proofs.FieldPartLaws.{push-ok}
-use Rattle.sheet_table.specs.Cut.{has, blankBeside, skipBeside, begins, bare, lead, opening, cut, isNone}
-use Rattle.sheet_table.specs.Table.{isEmpty, doubled, requote}
-use Rattle.sheet_table.proofs.CutLaws.{parts-comma, Follows, cellsAfter, consCell, lead-cell, AllBlank}
+use Rattle.sheet_table.specs.Cut.{has, blankBeside, skipBeside}
+use Rattle.sheet_table.proofs.CutLaws.{AllBlank}
 
 -- ---- bytes
 
@@ -55,11 +52,11 @@ inside-return (c ∷ l) a = (a .0 .2, inside-return l (a .1))
 abbrev pub Blanks : List ℕ → Type 0
 Blanks l = All (λ c. isBlank c ≡ true) l
 
-and-true : (a : Bool) → (a && true) ≡ a
+pub and-true : (a : Bool) → (a && true) ≡ a
 and-true true = refl
 and-true false = refl
 
-pub blank-same : (c : ℕ) → blankBeside 44 c ≡ isBlank c
+blank-same : (c : ℕ) → blankBeside 44 c ≡ isBlank c
 unfolding blankBeside isBlank
 blank-same c = ap (λ z. eqb c 32 || z) (and-true (eqb c 9))
 
@@ -178,15 +175,16 @@ number-taken c l n q e =
     andThen-ok (readDigits 10 0 (c ∷ l)) _ n q e1 (λ m y qm e2.
     let (t2, e3) = check-ok _ 22 0 _ n q e2 in
     let w = digits-taken 9 (0 * 10 + (c - 48)) l m y (sym (first-digits c l t) ∙ qm) in
-    ok-same m n y q e3 (λ a b.
-    (t,
-    record {
-      part = w .part;
-      whole = w .whole ∙ ap (λ z. w .part ++ z) b;
-      inside = w .inside;
-      again = λ x h.
-        check-eq 22 0 _ t ∙ andThen-eq _ (first-digits c (w .part ++ x) t ∙ w .again x h) ∙ check-eq 22 0 _ t2 ∙ ap (λ z. ok z x) a;
-    })))
+    ok-same m n y q e3 (λ a b. (
+      t,
+      record {
+        part = w .part;
+        whole = w .whole ∙ ap (λ z. w .part ++ z) b;
+        inside = w .inside;
+        again = λ x h.
+            check-eq 22 0 _ t ∙ andThen-eq _ (first-digits c (w .part ++ x) t ∙ w .again x h) ∙ check-eq 22 0 _ t2 ∙ ap (λ z. ok z x) a;
+      },
+    )))
 
 -- a name is its letters
 pub record Letters (l s q : List ℕ) : Type 0 where

@@ -268,6 +268,7 @@ bare-first sep x l h =
     isBare quotes = false
     isBare aQuote = false
     isBare closed = false
+
     lead-bare : lead ≡ bare → ⊥
     lead-bare e = false≢true (ap isBare e)
 
@@ -301,3 +302,23 @@ first-cell sep l s =
 pub requoted-cut : (sep : ℕ) (c t : List ℕ) → Parts sep → Follows sep t → cut sep (requote c ++ t) ≡ consCell c (cellsAfter sep t)
 unfolding requote
 requoted-cut sep c t s h = ap (λ z. cut sep (34 ∷ z)) (append-assoc (doubled c) (34 ∷ []) t) ∙ lead-cell sep [] c [] t s tt tt h
+
+-- a content that no blank and no quote begins
+unfoldable pub Clean : ℕ → List ℕ → Type 0
+Clean sep [] = Unit {0}
+Clean sep (x ∷ c) = (blankBeside sep x ≡ false) × (eqb x 34 ≡ false)
+
+none-open : (sep : ℕ) → opening sep [] ≡ bare
+unfolding opening skipBeside begins pick
+none-open sep = refl
+
+open-clean : (sep : ℕ) (c t : List ℕ) → Parts sep → Clean sep c → Follows sep t → opening sep (c ++ t) ≡ bare
+unfolding Clean Follows
+open-clean sep [] [] s k h = none-open sep
+open-clean sep [] (x ∷ t) s k h = rw h (open-bare sep sep t (s .noBlank) (s .noQuote))
+open-clean sep (x ∷ c) t s k h = open-bare sep x (c ++ t) (k .0) (k .1)
+
+-- such a content without a separator in it is cut as it stands
+pub clean-cut : (sep : ℕ) (c t : List ℕ) → Parts sep → Clean sep c → has sep c ≡ false → Follows sep t → cut sep (c ++ t) ≡ consCell c (cellsAfter sep t)
+unfolding cut
+clean-cut sep c t s k n h = ap (cutFrom sep (c ++ t)) (open-clean sep c t s k h) ∙ bare-cut sep c t s n h

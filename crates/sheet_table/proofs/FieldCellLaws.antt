@@ -1,6 +1,6 @@
 -- A field that is read is the first cell that is cut at commas, and that cell put back is read as the field.
-use mathlib.Core.Path.{_≡_, refl, sym, ap, ap₂, _∙_}
-use Prim.Native.Nat.{ℕ, zero, suc, _+_, _≤_}
+use mathlib.Core.Path.{_≡_, refl, sym, ap, _∙_}
+use Prim.Native.Nat.{ℕ, zero, suc, _≤_}
 use mathlib.Core.Bool.{Bool, true, false, false≢true}
 use mathlib.Core.List.{List, [], _∷_, _++_, append-assoc}
 use native.Mathlib.Omega.{arith}
@@ -8,7 +8,7 @@ use lib.ListN.{length, length-append}
 use lib.Dec.{eqb}
 use borrow.Author.Tests.{eqb-true}
 use Rattle.event.specs.Choice.{pick}
-use Rattle.event.specs.Outcome.{Outcome, ok, andThen}
+use Rattle.event.specs.Outcome.{ok}
 use Rattle.event.proofs.ChoiceLaws.{pick-true, pick-false, pick-cases}
 use Rattle.event.proofs.OutcomeLaws.{not-ok, ok-same, andThen-ok, andThen-eq, check-ok}
 use Rattle.midicsv.specs.Field.{Field, num, minus, name, quoted}
@@ -17,12 +17,12 @@ use Rattle.midicsv.proofs.AllLaws.{All, all-append}
 use Rattle.midicsv.proofs.FieldReadLaws.{Ends, letter-range, not-blank, finish-ends, quoted-field}
 use Rattle.midicsv.proofs.FieldPartLaws.{push-ok}
 use Rattle.midicsv.proofs.QuotedReadLaws.{push-eq}
-use Rattle.sheet_table.specs.Cut.{has, skipBeside, begins, bare, lead, opening, cutFrom, cut, isNone}
+use Rattle.sheet_table.specs.Cut.{has, begins, bare, lead, opening, cutFrom, cut, isNone}
 use Rattle.sheet_table.specs.Table.{isEmpty, doubled, requote}
 use Rattle.sheet_table.proofs.CutLaws.{parts-comma, Follows, cellsAfter, consCell, bare-cut, lead-cell}
 use Rattle.sheet_table.proofs.BareFieldLaws.{Inside, inside-high, digit-least, inside-has, NoReturn, inside-return, Blanks, skip-same, blanks-beside, blanks-inside, skip-blanks, skipped, Stops, ends-stop, number-taken, letters}
 use Rattle.sheet_table.proofs.TableLinesLaws.{doubled-in}
-use Rattle.sheet_table.proofs.QuotedFieldLaws.{QuotedPart, quoted-part}
+use Rattle.sheet_table.proofs.QuotedFieldLaws.{quoted-part}
 
 -- x is read as f, whatever may follow a field after it
 abbrev pub Reads : List ℕ → Field → Type 0

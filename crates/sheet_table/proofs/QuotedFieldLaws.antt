@@ -1,24 +1,18 @@
 -- A quoted text that is read: its content as the cutter finds it, with each quote once.
-use mathlib.Core.Path.{_≡_, refl, sym, ap, ap₂, _∙_}
-use Prim.Native.Nat.{ℕ, zero, suc, _+_, _-_, _*_, _≤_}
-use mathlib.Core.Bool.{Bool, true, false, false≢true, _&&_, _||_, not}
-use mathlib.Core.List.{List, [], _∷_, _++_, append-assoc}
+use mathlib.Core.Path.{_≡_, refl, sym, ap, _∙_}
+use Prim.Native.Nat.{ℕ, _+_, _-_, _*_}
+use mathlib.Core.Bool.{Bool, true, false, false≢true}
+use mathlib.Core.List.{List, [], _∷_, _++_}
 use native.Mathlib.Omega.{arith}
-use lib.ListN.{length, length-append}
 use lib.Dec.{leb, eqb}
 use borrow.Author.Tests.{leb-true, eqb-true, ne-eqb}
 use Rattle.event.specs.Choice.{pick}
-use Rattle.event.specs.Outcome.{Outcome, ok, refused, andThen, check}
-use Rattle.event.proofs.ChoiceLaws.{by-test, pick-true, pick-false, pick-cases, or-cases, and-both}
-use Rattle.event.proofs.OutcomeLaws.{not-ok, ok-same, andThen-ok, andThen-eq, check-ok, check-eq}
-use Rattle.midicsv.specs.Field.{Field, num, minus, name, quoted}
-use Rattle.midicsv.specs.ReadField.{isBlank, isDigit, isLetter, skip, push, readDigits, readNumber, negative, Seen, plain, aQuote, aSlash, octal1, octal2, isOctal, readQuoted, readName, atComma, finish, fieldOf, readField}
-use Rattle.midicsv.proofs.AllLaws.{All, all-append}
-use Rattle.midicsv.proofs.FieldReadLaws.{Ends, letter-range, high-digit, not-blank, finish-ends}
+use Rattle.event.specs.Outcome.{Outcome, ok}
+use Rattle.event.proofs.ChoiceLaws.{by-test, pick-true, pick-false, pick-cases, and-both}
+use Rattle.event.proofs.OutcomeLaws.{not-ok, ok-same, check-ok, check-eq}
+use Rattle.midicsv.specs.ReadField.{push, Seen, plain, aQuote, aSlash, octal1, octal2, isOctal, readQuoted}
 use Rattle.midicsv.proofs.FieldPartLaws.{push-ok}
-use Rattle.sheet_table.specs.Cut.{has, blankBeside, skipBeside, begins, bare, lead, opening, cut, isNone}
-use Rattle.sheet_table.specs.Table.{isEmpty, doubled, requote}
-use Rattle.sheet_table.proofs.CutLaws.{parts-comma, Follows, cellsAfter, consCell, lead-cell, AllBlank}
+use Rattle.sheet_table.specs.Table.{doubled}
 use Rattle.sheet_table.proofs.BareFieldLaws.{NoReturn, Stops, stops-quote}
 
 -- ---- a quoted text: its content as the cutter finds it

@@ -1,29 +1,27 @@
 -- The line of a record goes through the table unharmed: the line that is put back is read as the same record.
 use mathlib.Core.Path.{_≡_, refl, sym, ap, ap₂, _∙_}
-use Prim.Native.Nat.{ℕ, zero, suc, _+_, _≤_, _<_}
-use mathlib.Core.Bool.{Bool, true, false, false≢true, _&&_, _||_}
-use mathlib.Core.List.{List, [], _∷_, _++_, append-nil}
+use Prim.Native.Nat.{ℕ, suc, _+_, _≤_}
+use mathlib.Core.Bool.{Bool, true, false, false≢true, _&&_}
+use mathlib.Core.List.{List, [], _∷_, append-nil}
 use native.Mathlib.Omega.{arith}
 use lib.ListN.{length, getD}
-use lib.Dec.{eqb}
 use borrow.Author.Tests.{eqb-true}
-use Rattle.event.specs.Choice.{pick}
 use Rattle.event.specs.Outcome.{Outcome, ok, refused}
 use Rattle.event.proofs.ChoiceLaws.{pick-false}
 use Rattle.midicsv.specs.Field.{Field, num, minus, name, quoted}
 use Rattle.midicsv.specs.Table.{RecordName, header, start-track, end-of-file, event, note-off, note-on, poly-aftertouch, control-change, program-change, channel-aftertouch, pitch-bend, system-exclusive, system-exclusive-packet, sequence-number, words, channel-prefix, midi-port, end-track, set-tempo, smpte-offset, time-signature, key-signature, sequencer-specific, unknown-meta, Column, range, key, mode, freeType, Tail, none, oneText, sized, eventShape, shape}
 use Rattle.midicsv.specs.Record.{Record, Values}
-use Rattle.midicsv.specs.Result.{Result, good, bad}
+use Rattle.midicsv.specs.Result.{Result, good}
 use Rattle.midicsv.specs.ReadField.{readField, allFields}
 use Rattle.midicsv.specs.Names.{nameFrom}
 use Rattle.midicsv.specs.ReadRecord.{sizeOf, counted, readColumn, readBytes, readText, readTail, readColumns, recordOf, ofFields, readLine}
 use Rattle.midicsv.proofs.ResultLaws.{not-good, next-good, test-good}
 use Rattle.midicsv.proofs.RowAcceptedLaws.{counted-good}
 use Rattle.sheet_table.specs.Cut.{has, cut}
-use Rattle.sheet_table.specs.Table.{isEmpty, allEmpty, dropEmpty, requote, plainCell, plainCells, fieldsTo, TextPlace, nowhere, after, textFrom, textOfName, nameIn, textAt, rowFields, joined, rowLine, cellsLine}
+use Rattle.sheet_table.specs.Table.{isEmpty, allEmpty, dropEmpty, plainCells, fieldsTo, nowhere, after, textFrom, textOfName, nameIn, textAt, rowFields, rowLine, cellsLine}
 use Rattle.sheet_table.proofs.BareFieldLaws.{NoReturn}
-use Rattle.sheet_table.proofs.FieldCellLaws.{isText, Bare, Holds}
-use Rattle.sheet_table.proofs.RowKeptLaws.{HoldAll, Row, fields-row, ReadAll, joined-read, to-bare, plain-reads, quote-reads, AllPlain, plains-read, drop-none}
+use Rattle.sheet_table.proofs.FieldCellLaws.{isText, Bare}
+use Rattle.sheet_table.proofs.RowKeptLaws.{HoldAll, fields-row, ReadAll, joined-read, to-bare, plain-reads, quote-reads, AllPlain, plains-read, drop-none}
 
 -- ---- three sorts of records: of numbers, with a text, with a key and a mode
 
@@ -225,9 +223,16 @@ module _ (x y z : List ℕ) (a b c : Field) (ta : isText a ≡ false) (tb : isTe
   key-back (w ∷ u ∷ []) (f ∷ g ∷ []) v n e h =
       next-good (readColumn key f) _ v e (λ i qi e1.
       next-good (readColumns (mode ∷ []) none (g ∷ [])) _ v e1 (λ m qm e2.
-      next-good (readColumn mode g) _ m qm (λ j qj e3.
-      (plain-reads x a ta (h .0), (plain-reads y b tb (h .1 .0), (plain-reads z c tc (h .1 .1 .0),
-      (plain-reads w f (key-plain f i qi) (h .1 .1 .1 .0), (quote-reads u g (mode-text g j qj) (h .1 .1 .1 .1 .0), tt))))))))
+      next-good (readColumn mode g) _ m qm (λ j qj e3. (
+        plain-reads x a ta (h .0),
+        (
+          plain-reads y b tb (h .1 .0),
+          (
+            plain-reads z c tc (h .1 .1 .0),
+            (plain-reads w f (key-plain f i qi) (h .1 .1 .1 .0), (quote-reads u g (mode-text g j qj) (h .1 .1 .1 .1 .0), tt)),
+          ),
+        ),
+      ))))
 
   -- the row of the name n
   sort-back : (n : RecordName) (cs : List (List ℕ)) (fs : List Field) (v : Values) → Sort n → Fits (length (shape n .columns)) (shape n .tail) fs

@@ -1,29 +1,21 @@
 -- The cells of a line whose fields are read; and cells, put back and joined, that are read as their fields.
 use mathlib.Core.Path.{_≡_, refl, sym, ap, ap₂, _∙_}
-use Prim.Native.Nat.{ℕ, zero, suc, _+_, _≤_, _<_}
-use mathlib.Core.Bool.{Bool, true, false, false≢true, _&&_, _||_}
+use Prim.Native.Nat.{ℕ, zero, suc, _≤_, _<_}
+use mathlib.Core.Bool.{Bool, true, false, false≢true, _||_}
 use mathlib.Core.List.{List, [], _∷_, _++_}
 use native.Mathlib.Omega.{arith}
 use lib.ListN.{length, length-append}
 use lib.Dec.{eqb}
-use borrow.Author.Tests.{eqb-true}
-use Rattle.event.specs.Choice.{pick}
-use Rattle.event.specs.Outcome.{Outcome, ok, refused, andThen}
-use Rattle.event.proofs.ChoiceLaws.{by-test, pick-true, pick-false}
+use Rattle.event.specs.Outcome.{ok}
+use Rattle.event.proofs.ChoiceLaws.{pick-false}
 use Rattle.event.proofs.OutcomeLaws.{not-ok, ok-same, andThen-ok, andThen-eq}
-use Rattle.midicsv.specs.Field.{Field, num, minus, name, quoted}
-use Rattle.midicsv.specs.Table.{RecordName, EventName, header, start-track, end-of-file, event, note-off, note-on, poly-aftertouch, control-change, program-change, channel-aftertouch, pitch-bend, system-exclusive, system-exclusive-packet, sequence-number, words, channel-prefix, midi-port, end-track, set-tempo, smpte-offset, time-signature, key-signature, sequencer-specific, unknown-meta, Column, range, key, mode, freeType, Tail, none, oneText, sized, eventShape, shape}
-use Rattle.midicsv.specs.Record.{Record, Values}
-use Rattle.midicsv.specs.Result.{Result, good, bad, next, test}
+use Rattle.midicsv.specs.Field.{Field}
+use Rattle.midicsv.specs.Result.{good}
 use Rattle.midicsv.specs.ReadField.{readField, onward, readFields, allFields}
-use Rattle.midicsv.specs.Names.{nameFrom}
-use Rattle.midicsv.specs.ReadRecord.{counted, readColumn, readBytes, readText, readTail, readColumns, recordOf, ofFields, readLine}
-use Rattle.midicsv.proofs.AllLaws.{All, all-append}
+use Rattle.midicsv.proofs.AllLaws.{all-append}
 use Rattle.midicsv.proofs.FieldReadLaws.{Ends}
-use Rattle.midicsv.proofs.ResultLaws.{not-good, next-good, test-good}
-use Rattle.midicsv.proofs.RowAcceptedLaws.{counted-good}
 use Rattle.sheet_table.specs.Cut.{has, cut}
-use Rattle.sheet_table.specs.Table.{isEmpty, allEmpty, keepBefore, dropEmpty, requote, plainCell, plainCells, fieldsTo, nowhere, after, textFrom, textOfName, nameIn, textAt, rowFields, furtherJoined, joined, rowLine, cellsLine}
+use Rattle.sheet_table.specs.Table.{isEmpty, keepBefore, dropEmpty, requote, plainCell, plainCells, furtherJoined, joined}
 use Rattle.sheet_table.proofs.CutLaws.{cellsAfter, consCell}
 use Rattle.sheet_table.proofs.BareFieldLaws.{NoReturn}
 use Rattle.sheet_table.proofs.FieldCellLaws.{Reads, isText, Bare, Holds, barely, inQuotes, FieldCell, field-cell}

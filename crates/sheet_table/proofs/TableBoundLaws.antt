@@ -8,18 +8,18 @@ use lib.ListN.{length, length-append}
 use lib.Dec.{eqb}
 use Rattle.event.specs.Choice.{pick}
 use Rattle.event.specs.Outcome.{Outcome, ok, refused}
-use Rattle.event.proofs.ChoiceLaws.{by-test, pick-true, pick-false, pick-cases, and-both}
+use Rattle.event.proofs.ChoiceLaws.{by-test, pick-cases, and-both}
 use Rattle.midicsv.specs.Field.{Field, num, minus, name, quoted}
 use Rattle.midicsv.specs.Table.{RecordName, spelled, eventSpelled, Column, range, key, mode, freeType, Tail, none, oneText, sized, shape}
 use Rattle.midicsv.specs.Result.{Result, good, bad}
-use Rattle.midicsv.specs.ReadField.{readField}
+use Rattle.midicsv.specs.ReadField.{isBlank, skip, readField}
 use Rattle.midicsv.specs.Names.{allNames, lower, sameName, find, nameFrom}
-use Rattle.midicsv.specs.Lines.{onto, linesOf, trimmed, passedOver}
+use Rattle.midicsv.specs.Lines.{onto, linesOf, trimmed, isComment, passedOver}
 use Rattle.midicsv.proofs.ResultLaws.{not-good, good-same}
-use Rattle.sheet_table.specs.Cut.{has, bare, opening, cut}
+use Rattle.sheet_table.specs.Cut.{has, blankBeside, skipBeside, begins, bare, opening, onCell, newCell, cutFrom, cut, isNone}
 use Rattle.sheet_table.specs.Table.{isEmpty, allEmpty, keepBefore, dropEmpty, doubled, requote, plainCell, plainCells, fieldsTo, TextPlace, nowhere, after, textFrom, textOfName, nameIn, textAt, rowFields, furtherJoined, joined, rowLine, ofCut, isRemark, lineBy, cellsLine, tableLine, sepIn, sepOf, unmarked, tableLines, tableOf, tableText}
-use Rattle.sheet_table.proofs.CutLaws.{Parts, parts-comma, parts-semicolon, parts-tab, Follows, cellsAfter, consCell, or-right, bare-first, FirstCell, bareCell, quotedCell, noCell, first-cell}
-use Rattle.sheet_table.proofs.FieldCellLaws.{isText, nameSize, field-cell, Holds, barely, inQuotes, Bare}
+use Rattle.sheet_table.proofs.CutLaws.{Parts, parts-comma, parts-semicolon, parts-tab, cellsAfter, consCell, or-right, bare-first, FirstCell, bareCell, quotedCell, noCell, first-cell}
+use Rattle.sheet_table.proofs.FieldCellLaws.{isText, nameSize, field-cell, Holds, barely, inQuotes}
 
 -- ---- a cell that is put back
 
@@ -174,10 +174,67 @@ AllLong (n ∷ ns) = (2 ≤ length (spelled n)) × AllLong ns
 
 all-long : AllLong allNames
 unfolding spelled eventSpelled
-all-long =
-    (omega arith, (omega arith, (omega arith, (omega arith, (omega arith, (omega arith, (omega arith, (omega arith, (omega arith, (omega arith,
-    (omega arith, (omega arith, (omega arith, (omega arith, (omega arith, (omega arith, (omega arith, (omega arith, (omega arith, (omega arith,
-    (omega arith, (omega arith, (omega arith, (omega arith, (omega arith, (omega arith, (omega arith, (omega arith, (omega arith, tt)))))))))))))))))))))))))))))
+all-long = (
+  omega arith,
+  (
+    omega arith,
+    (
+      omega arith,
+      (
+        omega arith,
+        (
+          omega arith,
+          (
+            omega arith,
+            (
+              omega arith,
+              (
+                omega arith,
+                (
+                  omega arith,
+                  (
+                    omega arith,
+                    (
+                      omega arith,
+                      (
+                        omega arith,
+                        (
+                          omega arith,
+                          (
+                            omega arith,
+                            (
+                              omega arith,
+                              (
+                                omega arith,
+                                (
+                                  omega arith,
+                                  (
+                                    omega arith,
+                                    (
+                                      omega arith,
+                                      (
+                                        omega arith,
+                                        (omega arith, (omega arith, (omega arith, (omega arith, (omega arith, (omega arith, (omega arith, (omega arith, (omega arith, tt))))))))),
+                                      ),
+                                    ),
+                                  ),
+                                ),
+                              ),
+                            ),
+                          ),
+                        ),
+                      ),
+                    ),
+                  ),
+                ),
+              ),
+            ),
+          ),
+        ),
+      ),
+    ),
+  ),
+)
 
 find-long : (s : List ℕ) (ns : List RecordName) (n : RecordName) → AllLong ns → find s ns ≡ good n → 2 ≤ length s
 unfolding find
@@ -355,3 +412,8 @@ table-bound s =
     let ls = linesOf (unmarked s) in
     let h = lines-length (sepOf ls) ls (sep-parts ls) in
     omega (arith, lines-feeds (unmarked s), unmarked-length s)
+
+-- and no less will do: of a" comes "a""" and LF, 6 bytes of 2
+pub bound-met : length (tableText (97 ∷ 34 ∷ [])) ≡ 2 * 2 + 2
+unfolding tableText tableOf tableLines unmarked sepOf sepIn tableLine cellsLine lineBy isRemark ofCut rowLine joined furtherJoined rowFields textAt plainCells plainCell requote doubled dropEmpty keepBefore allEmpty isEmpty isNone cut cutFrom newCell onCell opening begins skipBeside blankBeside has passedOver isComment trimmed linesOf onto skip isBlank pick
+bound-met = refl

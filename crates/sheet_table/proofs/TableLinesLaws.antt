@@ -2,7 +2,7 @@
 use mathlib.Core.Path.{_≡_, refl, ap, _∙_}
 use Prim.Native.Nat.{ℕ, zero, suc}
 use mathlib.Core.Bool.{Bool, true, false}
-use mathlib.Core.List.{List, [], _∷_, _++_}
+use mathlib.Core.List.{List, [], _∷_}
 use lib.ListN.{length}
 use lib.Dec.{eqb}
 use Rattle.event.specs.Choice.{pick}
@@ -147,7 +147,7 @@ module _ (P : ℕ → Type 0) (quote : P 34) (comma : P 44) where
 
 -- ---- one CR less has the same bytes
 
-pub trimmed-all : (P : ℕ → Type 0) (l : List ℕ) → All P l → All P (trimmed l)
+trimmed-all : (P : ℕ → Type 0) (l : List ℕ) → All P l → All P (trimmed l)
 unfolding trimmed
 trimmed-all P [] a = tt
 trimmed-all P (c ∷ []) a = list-pick P (eqb c 13) _ _ tt a
