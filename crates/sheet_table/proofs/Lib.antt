@@ -2,6 +2,7 @@ pub mod AnyKeptLaws
 pub mod BareFieldLaws
 pub mod CutLaws
 pub mod FieldCellLaws
+pub mod NameSizeLaws
 pub mod QuotedFieldLaws
 pub mod RecordKeptLaws
 pub mod RowKeptLaws

@@ -8,17 +8,18 @@ use lib.ListN.{length, length-append}
 use lib.Dec.{eqb}
 use Rattle.event.specs.Choice.{pick}
 use Rattle.event.specs.Outcome.{Outcome, ok, refused}
-use Rattle.event.proofs.ChoiceLaws.{by-test, pick-cases, and-both}
-use Rattle.midicsv.specs.Field.{Field, num, minus, name, quoted}
-use Rattle.midicsv.specs.Table.{RecordName, spelled, eventSpelled, Column, range, key, mode, freeType, Tail, none, oneText, sized, shape}
+use Rattle.event.proofs.ChoiceLaws.{by-test}
+use Rattle.midicsv.specs.Field.{Field}
+use Rattle.midicsv.specs.Table.{RecordName, Column, range, key, mode, freeType, Tail, none, oneText, sized, shape}
 use Rattle.midicsv.specs.Result.{Result, good, bad}
 use Rattle.midicsv.specs.ReadField.{isBlank, skip, readField}
-use Rattle.midicsv.specs.Names.{allNames, lower, sameName, find, nameFrom}
+use Rattle.midicsv.specs.Names.{nameFrom}
 use Rattle.midicsv.specs.Lines.{onto, linesOf, trimmed, isComment, passedOver}
 use Rattle.midicsv.proofs.ResultLaws.{not-good, good-same}
 use Rattle.sheet_table.specs.Cut.{has, blankBeside, skipBeside, begins, bare, opening, onCell, newCell, cutFrom, cut, isNone}
 use Rattle.sheet_table.specs.Table.{isEmpty, allEmpty, keepBefore, dropEmpty, doubled, requote, plainCell, plainCells, fieldsTo, TextPlace, nowhere, after, textFrom, textOfName, nameIn, textAt, rowFields, furtherJoined, joined, rowLine, ofCut, isRemark, lineBy, cellsLine, tableLine, sepIn, sepOf, unmarked, tableLines, tableOf, tableText}
 use Rattle.sheet_table.proofs.CutLaws.{Parts, parts-comma, parts-semicolon, parts-tab, cellsAfter, consCell, or-right, bare-first, FirstCell, bareCell, quotedCell, noCell, first-cell}
+use Rattle.sheet_table.proofs.NameSizeLaws.{name-long}
 use Rattle.sheet_table.proofs.FieldCellLaws.{isText, nameSize, field-cell, Holds, barely, inQuotes}
 
 -- ---- a cell that is put back
@@ -160,93 +161,6 @@ to-cost (suc k) [] = omega arith
 to-cost (suc k) (c ∷ cs) = omega (arith, plain-weigh c, to-cost k cs, length-append (plainCell c) (furtherJoined (fieldsTo k cs)))
 
 -- ---- but the name's cell gave less than was reckoned for it
-
-same-length : (s t : List ℕ) → sameName s t ≡ true → length s ≡ length t
-unfolding sameName
-same-length [] [] e = refl
-same-length [] (d ∷ t) e = absurd (false≢true e)
-same-length (c ∷ s) [] e = absurd (false≢true e)
-same-length (c ∷ s) (d ∷ t) e = ap suc (same-length s t (and-both (eqb (lower c) (lower d)) (sameName s t) e .1))
-
-abbrev AllLong : List RecordName → Type 0
-AllLong [] = Unit {0}
-AllLong (n ∷ ns) = (2 ≤ length (spelled n)) × AllLong ns
-
-all-long : AllLong allNames
-unfolding spelled eventSpelled
-all-long = (
-  omega arith,
-  (
-    omega arith,
-    (
-      omega arith,
-      (
-        omega arith,
-        (
-          omega arith,
-          (
-            omega arith,
-            (
-              omega arith,
-              (
-                omega arith,
-                (
-                  omega arith,
-                  (
-                    omega arith,
-                    (
-                      omega arith,
-                      (
-                        omega arith,
-                        (
-                          omega arith,
-                          (
-                            omega arith,
-                            (
-                              omega arith,
-                              (
-                                omega arith,
-                                (
-                                  omega arith,
-                                  (
-                                    omega arith,
-                                    (
-                                      omega arith,
-                                      (
-                                        omega arith,
-                                        (omega arith, (omega arith, (omega arith, (omega arith, (omega arith, (omega arith, (omega arith, (omega arith, (omega arith, tt))))))))),
-                                      ),
-                                    ),
-                                  ),
-                                ),
-                              ),
-                            ),
-                          ),
-                        ),
-                      ),
-                    ),
-                  ),
-                ),
-              ),
-            ),
-          ),
-        ),
-      ),
-    ),
-  ),
-)
-
-find-long : (s : List ℕ) (ns : List RecordName) (n : RecordName) → AllLong ns → find s ns ≡ good n → 2 ≤ length s
-unfolding find
-find-long s [] n a e = not-good e
-find-long s (m ∷ ns) n a e = pick-cases (sameName s (spelled m)) _ _ _ e (λ t q. omega (arith, same-length s (spelled m) t, a .0)) (λ t q. find-long s ns n (a .1) q)
-
-name-long : (f : Field) (n : RecordName) → nameFrom f ≡ good n → (isText f ≡ false) × (2 ≤ nameSize f)
-unfolding nameFrom isText nameSize
-name-long (num k) n e = not-good e
-name-long (minus k) n e = not-good e
-name-long (name s) n e = (refl, find-long s allNames n all-long e)
-name-long (quoted d) n e = not-good e
 
 bare-slack : (c : List ℕ) → has 44 c ≡ false → has 34 c ≡ false → 2 ≤ length c → length (plainCell c) + 3 ≤ weigh c
 unfolding plainCell weigh pick
