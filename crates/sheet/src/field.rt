@@ -17,19 +17,18 @@ use event_write::bytes::put_bytes;
 fn needs_quotes(raw: &[u8]) -> bool
     ensures { λ r. ⌜ r ≡ (has 44 (now (raw .entry)) || has 34 (now (raw .entry))) ⌝ }
 {
-    let mut comma = false;
-    let mut quote = false;
     let mut p = 0;
     while p < raw.len() {
-        if raw[p] == 44 {
-            comma = true;
+        let c = raw[p];
+        if c == 44 {
+            return true;
         }
-        if raw[p] == 34 {
-            quote = true;
+        if c == 34 {
+            return true;
         }
         p = p + 1;
     }
-    comma || quote
+    false
 }
 
 // Bytes as they are read, each quote twice where that is asked.
