@@ -1,2 +1,4 @@
 pub mod SeenLaws
 mod PartLaws
+mod CutLaws
+mod CellLaws

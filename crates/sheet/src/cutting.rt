@@ -2,7 +2,7 @@
 ghost use mathlib.Core.Path.{_≡_};
 ghost use Prim.Native.Nat.{_≤_};
 ghost use lib.ListN.{length};
-ghost use Rattle.sheet.specs.Code.Cell.{CellIs, BareEnd, QuoteEnd, ClosedTo, QuotedIs};
+ghost use Rattle.sheet.specs.Code.Cell.{CellIs, BareEnd, QuoteEnd, ClosedTo, QuotedIs, BareIs};
 use super::Cell;
 use super::CellStep;
 use super::part::after_byte;
@@ -76,16 +76,32 @@ fn quoted_cell(part: &[u8], at: usize, sep: u8, twice: bool) -> CellStep
         return CellStep::Open;
     }
     let next = closed_end(part, after_byte(part, to, twice), sep);
-    if next < part.len() {
-        if part[next] != sep {
-            return CellStep::Open;
-        }
-    }
-    CellStep::Found(Cell {
+    let found = Cell {
         from: at,
         to,
         quoted: true,
         next,
+    };
+    if part.len() <= next {
+        return CellStep::Found(found);
+    }
+    if part[next] != sep {
+        return CellStep::Open;
+    }
+    CellStep::Found(found)
+}
+
+// A bare cell, blanks and all.
+fn bare_cell(part: &[u8], at: usize, sep: u8, twice: bool) -> CellStep
+    requires { ⌜ at ≤ length (now part) ⌝ }
+    ensures { λ r. ⌜ BareIs sep twice (now (part .entry)) at r ⌝ }
+{
+    let to = bare_end(part, at, sep, twice);
+    CellStep::Found(Cell {
+        from: at,
+        to,
+        quoted: false,
+        next: to,
     })
 }
 
@@ -95,16 +111,11 @@ pub fn cell_at(part: &[u8], at: usize, sep: u8, twice: bool) -> CellStep
     ensures { λ r. ⌜ CellIs sep twice (now (part .entry)) at r ⌝ }
 {
     let p = skip_beside(part, at, sep);
-    if p < part.len() {
-        if part[p] == 34 {
-            return quoted_cell(part, after_byte(part, p, twice), sep, twice);
-        }
+    if part.len() <= p {
+        return bare_cell(part, at, sep, twice);
     }
-    let to = bare_end(part, at, sep, twice);
-    CellStep::Found(Cell {
-        from: at,
-        to,
-        quoted: false,
-        next: to,
-    })
+    if part[p] != 34 {
+        return bare_cell(part, at, sep, twice);
+    }
+    quoted_cell(part, after_byte(part, p, twice), sep, twice)
 }

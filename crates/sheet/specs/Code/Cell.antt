@@ -7,7 +7,7 @@ use lib.ListN.{length, getD, take, drop}
 use lib.Dec.{eqb}
 use Rattle.event.specs.Choice.{pick}
 use Rattle.midicsv.specs.Result.{Result, good, bad}
-use Rattle.sheet_table.specs.Cut.{has, blankBeside, begins, quotes, closed, cutFrom, cut}
+use Rattle.sheet_table.specs.Cut.{has, blankBeside, skipBeside, begins, quotes, closed, cutFrom, cut}
 use Rattle.sheet_table.specs.Table.{doubled}
 use Rattle.sheet.specs.Code.Seen.{singled, seen, slice, Reached}
 use Rattle.sheet.specs.declared.Cell.{Cell}
@@ -74,3 +74,7 @@ pub record ClosedTo (sep : ℕ) (l : List ℕ) (at p : ℕ) : Type 0 where
 -- the cell whose opening quote stands just before a place, from wherever it begins
 unfoldable pub QuotedIs : ℕ → Bool → List ℕ → ℕ → CellStep → Type 0
 QuotedIs sep twice l at r = (a : ℕ) → a ≤ at → cut sep (seen twice (drop a l)) ≡ cutFrom sep (seen twice (drop at l)) quotes → CellIs sep twice l a r
+
+-- the cell from a place on, where no quote opens it
+unfoldable pub BareIs : ℕ → Bool → List ℕ → ℕ → CellStep → Type 0
+BareIs sep twice l at r = begins 34 (skipBeside sep (seen twice (drop at l))) ≡ false → CellIs sep twice l at r
