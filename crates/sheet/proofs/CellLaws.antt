@@ -15,15 +15,9 @@ use Rattle.sheet_table.specs.Cut.{has, blankBeside, skipBeside, begins, bare, q
 use Rattle.sheet.specs.Code.Seen.{singled, seen, slice, Passed, Reached, SkippedTo}
 use Rattle.sheet.specs.Code.Cell.{cellsAfter, contentOf, CellIs, BareEnd, closes, QuoteEnd, ClosedTo, QuotedIs, BareIs}
 use Rattle.sheet.specs.declared.CellStep.the-variants.{Found, Open}
-use Rattle.sheet.proofs.SeenLaws.{seen-first, seen-other, seen-past, reached-first, reached-on, grown}
+use Rattle.sheet.proofs.SeenLaws.{seen-at, seen-other, seen-past, reached-first, reached-on, grown}
 use Rattle.sheet.proofs.PartLaws.{blank-quote}
 use Rattle.sheet.proofs.CutLaws.{onCells, cells-cons, cells-bad, Follows, bare-cut, has-more, quotes-cut, Paired, paired-join, paired-none, paired-one, paired-two, closing-cut, closed-blank, closed-other, closed-end, quoted-open, bare-open}
-
--- the byte at a place is the first that is seen from there on
-seen-at : (twice : Bool) (l : List ℕ) (p : ℕ) → p < length l → (m : List ℕ) × (seen twice (drop p l) ≡ getD l p 0 ∷ m)
-seen-at twice l p h =
-    let (m, e) = seen-first twice (getD l p 0) (drop (suc p) l) in
-    (m, ap (seen twice) (drop-cons l p 0 h) ∙ e)
 
 follows : (sep : ℕ) (twice : Bool) (l : List ℕ) (n : ℕ) → (n < length l → getD l n 0 ≡ sep) → Follows sep (seen twice (drop n l))
 unfolding Follows
@@ -75,7 +69,7 @@ module _ {twice : Bool} {l : List ℕ} {a b n : ℕ} (g : Quoted twice l a b) (h
   quoted-pair {o} e k f q =
       let r = reached-on (g .reached) h p in
       let s : seen twice (slice a o l) ≡ seen twice (slice a b l) ++ (34 ∷ 34 ∷ []) =
-          grown r k q ∙ rw (f, grown (g .reached) h p, e) (append-assoc (seen twice (slice a b l)) (34 ∷ []) (34 ∷ [])) in
+      grown r k q ∙ rw (f, grown (g .reached) h p, e) (append-assoc (seen twice (slice a b l)) (34 ∷ []) (34 ∷ [])) in
       record { reached = reached-on r k q; paired = rw s (paired-join (seen twice (slice a b l)) (34 ∷ 34 ∷ []) (g .paired) paired-two) }
 
   pub quoted-last : getD l b 0 ≡ 34 → length l ≤ n → QuoteEnd twice l a b

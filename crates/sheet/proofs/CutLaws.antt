@@ -54,11 +54,11 @@ unfolding cutFrom Follows cellsAfter cut consCell
 bare-end sep [] h = refl
 bare-end sep (x ∷ l) h = pick-true _ _ (eq-eqb x sep h) ∙ new-cons (cutFrom sep l (opening sep l))
 
-or-left : (a b : Bool) → (a || b) ≡ false → a ≡ false
+pub or-left : (a b : Bool) → (a || b) ≡ false → a ≡ false
 or-left true b e = absurd (false≢true (sym e))
 or-left false b e = refl
 
-or-right : (a b : Bool) → (a || b) ≡ false → b ≡ false
+pub or-right : (a b : Bool) → (a || b) ≡ false → b ≡ false
 or-right true b e = absurd (false≢true (sym e))
 or-right false b e = e
 
@@ -85,6 +85,7 @@ quotes-cut sep (x ∷ c) t =
   where
     two-quotes : (l : List ℕ) → cutFrom sep (34 ∷ 34 ∷ l) quotes ≡ onCell 34 (cutFrom sep l quotes)
     two-quotes l = refl
+
     inner-byte : eqb x 34 ≡ false → (l : List ℕ) → cutFrom sep (x ∷ l) quotes ≡ onCell x (cutFrom sep l quotes)
     inner-byte e l = pick-false _ _ e
 
@@ -101,7 +102,7 @@ singled-doubled (x ∷ c) m =
     other [] e = refl
     other (d ∷ l) e = pick-false _ _ e
 
-doubled-append : (c d : List ℕ) → doubled (c ++ d) ≡ doubled c ++ doubled d
+pub doubled-append : (c d : List ℕ) → doubled (c ++ d) ≡ doubled c ++ doubled d
 unfolding doubled pick
 doubled-append [] d = refl
 doubled-append (x ∷ c) d =

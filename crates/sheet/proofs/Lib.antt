@@ -1,4 +1,5 @@
-pub mod SeenLaws
+mod SeenLaws
 mod PartLaws
 mod CutLaws
 mod CellLaws
+mod FieldLaws

@@ -15,7 +15,7 @@ use Rattle.sheet_table.specs.Cut.{blankBeside, skipBeside, begins, isNone}
 use Rattle.sheet_table.specs.Table.{isEmpty, isRemark}
 use Rattle.sheet.specs.Code.Seen.{seen, SkippedTo}
 use Rattle.sheet.specs.Code.Cell.{contentOf}
-use Rattle.sheet.proofs.SeenLaws.{seen-first, seen-other, seen-none, seen-past}
+use Rattle.sheet.proofs.SeenLaws.{seen-first, seen-at, seen-other, seen-none, seen-past}
 
 -- ---- blanks beside the separator
 
@@ -75,9 +75,8 @@ module _ {sep : ℕ} {l : List ℕ} {at p : ℕ} (g : Skipping sep l at p) where
   pub skipping-stop : p < length l → blankBeside sep (getD l p 0) ≡ false → SkippedTo sep l at p
   skipping-stop h t = record {
     rest = λ twice.
-        let (m, e) = seen-first twice (getD l p 0) (drop (suc p) l) in
-        let f : seen twice (drop p l) ≡ getD l p 0 ∷ m = ap (seen twice) (drop-cons l p 0 h) ∙ e in
-        g .same twice ∙ ap (skipBeside sep) f ∙ skip-other sep (getD l p 0) m t ∙ sym f;
+        let (m, e) = seen-at twice l p h in
+        g .same twice ∙ ap (skipBeside sep) e ∙ skip-other sep (getD l p 0) m t ∙ sym e;
     later = g .later;
     inside = g .inside;
   }
@@ -102,8 +101,8 @@ remark-none sep twice l p k h = let e : skipBeside sep (seen twice l) ≡ [] = k
 module _ (sep : ℕ) (twice : Bool) (l : List ℕ) (p : ℕ) (k : SkippedTo sep l 0 p) (h : p < length l) where
   remark-first : isRemark sep (seen twice l) ≡ (eqb (getD l p 0) 35 || (eqb (getD l p 0) 59 && not (eqb sep 59)))
   remark-first =
-      let (m, e) = seen-first twice (getD l p 0) (drop (suc p) l) in
-      remark-by sep (getD l p 0) (seen twice l) m (k .rest twice ∙ ap (seen twice) (drop-cons l p 0 h) ∙ e)
+      let (m, e) = seen-at twice l p h in
+      remark-by sep (getD l p 0) (seen twice l) m (k .rest twice ∙ e)
 
   pub remark-hash : getD l p 0 ≡ 35 → true ≡ isRemark sep (seen twice l)
   remark-hash e = sym (remark-first ∙ rw e refl)
@@ -120,7 +119,7 @@ module _ (sep : ℕ) (twice : Bool) (l : List ℕ) (p : ℕ) (k : SkippedTo sep 
 abbrev EmptyAs : Bool → Bool → List ℕ → Bool
 EmptyAs twice quoted l = isEmpty (contentOf quoted (seen twice l))
 
-content-seen : (quoted : Bool) (l : List ℕ) → contentOf quoted l ≡ seen quoted l
+pub content-seen : (quoted : Bool) (l : List ℕ) → contentOf quoted l ≡ seen quoted l
 unfolding contentOf seen
 content-seen quoted l = refl
 
@@ -133,8 +132,8 @@ unfolding isEmpty skip
 empty-blank twice quoted x l t =
     let n = blank-no-quote x t in
     let e : contentOf quoted (seen twice (x ∷ l)) ≡ x ∷ contentOf quoted (seen twice l) =
-        ap (contentOf quoted) (seen-other twice x l n) ∙ content-seen quoted (x ∷ seen twice l) ∙ seen-other quoted x (seen twice l) n
-        ∙ ap (λ z. x ∷ z) (sym (content-seen quoted (seen twice l))) in
+    ap (contentOf quoted) (seen-other twice x l n) ∙ content-seen quoted (x ∷ seen twice l) ∙ seen-other quoted x (seen twice l) n
+    ∙ ap (λ z. x ∷ z) (sym (content-seen quoted (seen twice l))) in
     ap isEmpty e ∙ ap isNone (pick-true _ _ t)
 
 empty-other : (twice quoted : Bool) (x : ℕ) (l : List ℕ) → isBlank x ≡ false → EmptyAs twice quoted (x ∷ l) ≡ false

@@ -44,6 +44,12 @@ seen-same : (l : List ℕ) → seen false l ≡ l
 unfolding seen pick
 seen-same l = refl
 
+-- the byte at a place is the first that is seen from there on
+pub seen-at : (twice : Bool) (l : List ℕ) (p : ℕ) → p < length l → (m : List ℕ) × (seen twice (drop p l) ≡ getD l p 0 ∷ m)
+seen-at twice l p h =
+    let (m, e) = seen-first twice (getD l p 0) (drop (suc p) l) in
+    (m, ap (seen twice) (drop-cons l p 0 h) ∙ e)
+
 -- past the end nothing is seen
 pub seen-past : (twice : Bool) (l : List ℕ) (p : ℕ) → length l ≤ p → seen twice (drop p l) ≡ []
 seen-past twice l p h = ap (seen twice) (drop-of-length-le l h) ∙ seen-none twice
@@ -101,7 +107,7 @@ passed-two l at e h =
     let n : suc at ≡ at + 1 = omega arith in
     let m : suc (at + 1) ≡ at + 2 = omega arith in
     let d : drop at l ≡ getD l at 0 ∷ getD l (at + 1) 0 ∷ drop (at + 2) l =
-        drop-cons l at 0 (omega arith) ∙ ap (λ z. getD l at 0 ∷ drop z l) n ∙ ap (λ z. getD l at 0 ∷ z) (drop-cons l (at + 1) 0 h ∙ ap (λ z. getD l (at + 1) 0 ∷ drop z l) m) in
+    drop-cons l at 0 (omega arith) ∙ ap (λ z. getD l at 0 ∷ drop z l) n ∙ ap (λ z. getD l at 0 ∷ z) (drop-cons l (at + 1) 0 h ∙ ap (λ z. getD l (at + 1) 0 ∷ drop z l) m) in
     record {
       rest = ap (seen true) d ∙ seen-pair (getD l at 0) (getD l (at + 1) 0) (drop (at + 2) l) e;
       later = omega arith;
@@ -125,13 +131,15 @@ pub reached-first : (twice : Bool) (l : List ℕ) (a : ℕ) → a ≤ length l �
 reached-first twice l a h =
     let z : a - a ≡ 0 = omega arith in
     let e : slice a a l ≡ [] = ap (λ n. take n (drop a l)) z in
-    let s : seen twice (slice a a l) ≡ [] = ap (seen twice) e ∙ seen-none twice in
-    (s, record {
-      rest = sym (ap (λ y. y ++ seen twice (drop a l)) s);
-      later = omega arith;
-      inside = h;
-      whole = λ k m. ap (λ y. seen twice (y ++ m)) e ∙ sym (ap (λ y. y ++ seen twice m) s);
-    })
+    let s : seen twice (slice a a l) ≡ [] = ap (seen twice) e ∙ seen-none twice in (
+      s,
+      record {
+        rest = sym (ap (λ y. y ++ seen twice (drop a l)) s);
+        later = omega arith;
+        inside = h;
+        whole = λ k m. ap (λ y. seen twice (y ++ m)) e ∙ sym (ap (λ y. y ++ seen twice m) s);
+      },
+    )
 
 -- by a byte more
 module _ {twice : Bool} {l : List ℕ} {a b n : ℕ} (r : Reached twice l a b) (h : b < length l) (p : Passed twice l b n) where
