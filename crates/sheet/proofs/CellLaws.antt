@@ -16,7 +16,7 @@ use Rattle.sheet.specs.Code.Seen.{singled, seen, slice, Passed, Reached,
 use Rattle.sheet.specs.Code.Cell.{cellsAfter, contentOf, CellIs, BareEnd, closes, QuoteEnd, ClosedTo, QuotedIs, BareIs}
 use Rattle.sheet.specs.declared.CellStep.the-variants.{Found, Open}
 use Rattle.sheet.proofs.SeenLaws.{seen-at, seen-other, seen-past, reached-first, reached-on, grown}
-use Rattle.sheet.proofs.PartLaws.{blank-quote}
+use Rattle.sheet.proofs.BlankLaws.{blank-quote}
 use Rattle.sheet.proofs.CutLaws.{onCells, cells-cons, cells-bad, Follows, bare-cut, has-more, quotes-cut, Paired, paired-join, paired-none, paired-one, paired-two, closing-cut, closed-blank, closed-other, closed-end, quoted-open, bare-open}
 
 follows : (sep : ℕ) (twice : Bool) (l : List ℕ) (n : ℕ) → (n < length l → getD l n 0 ≡ sep) → Follows sep (seen twice (drop n l))

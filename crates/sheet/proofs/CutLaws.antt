@@ -13,7 +13,7 @@ use Rattle.sheet_table.specs.Cut.{has, blankBeside, skipBeside, begins, bare, l
 use Rattle.sheet_table.specs.Table.{doubled}
 use Rattle.sheet.specs.Code.Seen.{singled}
 use Rattle.sheet.specs.Code.Cell.{consCell, cellsAfter}
-use Rattle.sheet.proofs.PartLaws.{blank-quote}
+use Rattle.sheet.proofs.BlankLaws.{blank-quote}
 
 -- ---- cells in front
 

@@ -18,7 +18,7 @@ use Rattle.sheet_table.specs.Table.{doubled, requote, plainCell}
 use Rattle.sheet.specs.Code.Seen.{singled, seen, Passed}
 use Rattle.sheet.specs.Code.Cell.{contentOf}
 use Rattle.sheet.proofs.SeenLaws.{seen-past}
-use Rattle.sheet.proofs.PartLaws.{content-seen}
+use Rattle.sheet.proofs.BlankLaws.{content-seen}
 use Rattle.sheet.proofs.CutLaws.{Paired, doubled-append, or-left, or-right}
 
 -- ---- a comma or a quote among the bytes

@@ -1,5 +1,5 @@
 mod SeenLaws
-mod PartLaws
+mod BlankLaws
 mod CutLaws
 mod CellLaws
 mod FieldLaws

@@ -1,4 +1,4 @@
-use Rattle.sheet.proofs.PartLaws.{blank-space, blank-not, blank-tab}
+use Rattle.sheet.proofs.BlankLaws.{blank-space, blank-not, blank-tab}
 use Rattle.sheet.proofs.part.is_blank_beside.Statement.{statement}
 use Rattle.sheet.proofs.part.is_blank_beside.Tie as tie
 

@@ -1,7 +1,7 @@
 use Prim.Native.Nat.{_-_}
 use lib.ListN.{length}
 use borrow.Author.Tests.{not-true, not-false}
-use Rattle.sheet.proofs.PartLaws.{Emptying, emptying-on, emptying-stop, emptying-end}
+use Rattle.sheet.proofs.BlankLaws.{Emptying, emptying-on, emptying-stop, emptying-end}
 use mathlib.Core.Path.{refl, sym, _∙_}
 use borrow.Author.Needs.{needs}
 use Rattle.sheet.proofs.part.is_empty_cell.Statement.{statement}

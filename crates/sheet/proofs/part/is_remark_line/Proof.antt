@@ -1,4 +1,4 @@
-use Rattle.sheet.proofs.PartLaws.{remark-none, remark-hash, remark-not, remark-semicolon}
+use Rattle.sheet.proofs.BlankLaws.{remark-none, remark-hash, remark-not, remark-semicolon}
 use borrow.Author.Needs.{needs}
 use Rattle.sheet.proofs.part.is_remark_line.Statement.{statement}
 use Rattle.sheet.proofs.part.is_remark_line.Tie as tie

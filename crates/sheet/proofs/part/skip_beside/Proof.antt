@@ -1,7 +1,7 @@
 use Prim.Native.Nat.{_-_}
 use lib.ListN.{length}
 use borrow.Author.Tests.{not-true, not-false}
-use Rattle.sheet.proofs.PartLaws.{Skipping, skipping-first, skipping-on, skipping-stop, skipping-end}
+use Rattle.sheet.proofs.BlankLaws.{Skipping, skipping-first, skipping-on, skipping-stop, skipping-end}
 use mathlib.Core.Path.{sym, _∙_}
 use borrow.Author.Needs.{needs}
 use Rattle.sheet.proofs.part.skip_beside.Statement.{statement}
