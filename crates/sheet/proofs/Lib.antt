@@ -1,0 +1,5 @@
+mod SeenLaws
+mod BlankLaws
+mod CutLaws
+mod CellLaws
+mod FieldLaws

@@ -2,7 +2,7 @@
 use mathlib.Core.Path.{_≡_}
 use Prim.Native.Nat.{ℕ, _-_, _<_, _≤_}
 use mathlib.Core.Bool.{Bool}
-use mathlib.Core.List.{List, [], _∷_}
+use mathlib.Core.List.{List, [], _∷_, _++_}
 use lib.ListN.{length, getD, take, drop}
 use lib.Dec.{eqb}
 use Rattle.event.specs.Choice.{pick}
@@ -27,6 +27,15 @@ pub record Passed (twice : Bool) (l : List ℕ) (at next : ℕ) : Type 0 where
   pub rest : seen twice (drop at l) ≡ getD l at 0 ∷ seen twice (drop next l)
   pub later : at < next
   pub inside : next ≤ length l
+  -- before the part's end the bytes passed are that one, whatever follows
+  pub whole : next < length l → (m : List ℕ) → seen twice (slice at next l ++ m) ≡ getD l at 0 ∷ seen twice m
+
+-- b is a place that is reached byte by byte from a
+pub record Reached (twice : Bool) (l : List ℕ) (a b : ℕ) : Type 0 where
+  pub rest : seen twice (drop a l) ≡ seen twice (slice a b l) ++ seen twice (drop b l)
+  pub later : a ≤ b
+  pub inside : b ≤ length l
+  pub whole : b < length l → (m : List ℕ) → seen twice (slice a b l ++ m) ≡ seen twice (slice a b l) ++ seen twice m
 
 -- p is the place of the first byte from a place on that is no blank beside the separator, whichever way the part is read
 pub record SkippedTo (sep : ℕ) (l : List ℕ) (at p : ℕ) : Type 0 where
