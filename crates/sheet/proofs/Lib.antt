@@ -1,1 +1,3 @@
 pub mod SeparatorLaws
+pub mod TableLeftLaws
+pub mod SheetAnswerLaws
