@@ -1,7 +1,10 @@
 // A saved table turned into its text.
 ghost use mathlib.Core.Path.{_≡_};
-ghost use Prim.Native.Nat.{_≤_};
+ghost use Prim.Native.Nat.{_≤_, _<_, _^_};
+ghost use mathlib.Core.Bool.{_&&_};
 ghost use lib.ListN.{length, drop};
+ghost use lib.Dec.{eqb};
+ghost use Rattle.event.specs.Choice.{pick};
 ghost use Rattle.event_write.specs.Written.{Written};
 ghost use Rattle.midicsv.specs.Lines.{linesOf};
 ghost use Rattle.sheet_table.specs.Table.{sepIn, sepOf, unmarked, tableLines, tableText};
@@ -42,6 +45,22 @@ fn table_start(saved: &[u8]) -> usize
     3
 }
 
+// What is found of a separator, 0 for none, with a byte more that is no comma: a semicolon, or the first tab.
+fn noted(found: u8, c: u8) -> u8
+    ensures { λ r. ⌜ r ≡ pick (eqb c 59) 59 (pick (eqb c 9 && eqb found 0) 9 found) ⌝ }
+{
+    if c == SEMICOLON {
+        return SEMICOLON;
+    }
+    if c != TAB {
+        return found;
+    }
+    if found != 0 {
+        return found;
+    }
+    TAB
+}
+
 // What separates the cells of a line: a comma if it has one, else a semicolon, else a tab, else a comma.
 fn separator_in(line: &[u8]) -> u8
     ensures { λ r. ⌜ r ≡ sepIn (now (line .entry)) ⌝ }
@@ -53,14 +72,7 @@ fn separator_in(line: &[u8]) -> u8
         if c == COMMA {
             return COMMA;
         }
-        if c == SEMICOLON {
-            found = SEMICOLON;
-        }
-        if c == TAB {
-            if found == 0 {
-                found = TAB;
-            }
-        }
+        found = noted(found, c);
         i = i + 1;
     }
     if found == 0 {
@@ -89,7 +101,7 @@ fn separator(saved: &[u8], start: usize) -> u8
 
 // The lines of the text.
 fn put_lines(out: &mut [u8], saved: &[u8], start: usize, sep: u8) -> usize
-    requires { ⌜ start ≤ length (now saved) ⌝ ∗ ⌜ length (now saved) ≤ 268435456 ⌝ }
+    requires { ⌜ start ≤ length (now saved) ⌝ ∗ ⌜ length (now saved) ≤ 268435456 ⌝ ∗ ⌜ length (tableLines sep (linesOf (drop start (now saved)))) < 2 ^ 38 ⌝ }
     ensures { λ r. ⌜ Written (now (out .entry)) 0 (tableLines sep (linesOf (drop start (now (saved .entry))))) (now (out .exit)) r ⌝ }
 {
     let mut next = 0;
@@ -115,14 +127,14 @@ fn put_table(out: &mut [u8], saved: &[u8]) -> usize
 }
 
 // The text of a saved table, into lent room; on any refusal the room keeps what it held. No text is longer
-// than twice its table and one byte more, so in such a room nothing is measured first.
+// than twice its table and two bytes more, so in such a room nothing is measured first.
 pub fn sheet_to_text(saved: &[u8], out: &mut [u8]) -> Answer
     ensures { λ r. ⌜ r ≡ tableAnswer (length (now (out .entry))) (now (saved .entry)) ⌝ ∗ ⌜ now (out .exit) ≡ tableLeaves (now (saved .entry)) (now (out .entry)) ⌝ }
 {
     if TABLE_LIMIT < saved.len() {
         return Answer::refusal(38, 0);
     }
-    let most = 2 * saved.len() + 1;
+    let most = 2 * saved.len() + 2;
     if most <= TEXT_LIMIT {
         if most <= out.len() {
             let written = put_table(out, saved);
