@@ -8,7 +8,7 @@ use lib.ListN.{length, length-append}
 use lib.Dec.{ltb, eqb, leb·suc-suc}
 use borrow.Author.Tests.{eq-eqb, ne-eqb, lt-ltb, le-ltb, ltb-true, ltb-false}
 use Rattle.event.specs.Choice.{pick}
-use Rattle.event.proofs.ChoiceLaws.{by-test}
+use Rattle.event.proofs.ChoiceLaws.{pick-true, pick-false, by-test}
 use Rattle.midicsv.specs.ReadField.{readField}
 use Rattle.sheet_table.specs.Table.{isEmpty, keepBefore, dropEmpty, requote, plainCell, plainCells, fieldsTo, nowhere, after, nameIn, textOfName, textAt, rowFields, joined, rowLine}
 use Rattle.sheet.specs.Code.Row.{placeAs, fieldAt, fieldsIn, fieldCount, Looked}
@@ -112,3 +112,39 @@ looked-more {front} {r} {s} {c} k g = record {
   kept = g .kept ∙ ap₂ (λ m n. pick (isEmpty c) m (n + 1)) (k .kept) (k .cells) ∙ sym (kept-snoc front c);
   place = g .place ∙ ap₂ (λ m n. pick (eqb (n + 1) 3) (textOfName (nameIn (readField c))) m) (k .place) (k .cells) ∙ sym (text-snoc front c);
 }
+
+-- ---- how many fields a row has
+
+-- by the number of its cells, where it has a text
+count-text : (place cells kept : ℕ) → (place ≡ 0 → ⊥) → fieldCount place cells kept ≡ pick (ltb cells place) cells (max kept (suc place))
+unfolding fieldCount
+count-text zero cells kept h = absurd (h refl)
+count-text (suc k) cells kept h = refl
+
+module _ (place cells kept : ℕ) where
+  pub count-nowhere : place ≡ 0 → kept ≡ fieldCount place cells kept
+  unfolding fieldCount
+  count-nowhere e = rw e
+
+  pub count-short : (place ≡ 0 → ⊥) → cells < place → cells ≡ fieldCount place cells kept
+  count-short h l = sym (count-text place cells kept h ∙ pick-true cells (max kept (suc place)) (lt-ltb cells place l))
+
+  pub count-empty : (place ≡ 0 → ⊥) → place ≤ cells → kept ≤ place → place + 1 ≡ fieldCount place cells kept
+  count-empty h l k = sym (count-text place cells kept h ∙ pick-false cells (max kept (suc place)) (le-ltb cells place l) ∙ omega arith)
+
+  pub count-kept : (place ≡ 0 → ⊥) → place ≤ cells → place < kept → kept ≡ fieldCount place cells kept
+  count-kept h l k = sym (count-text place cells kept h ∙ pick-false cells (max kept (suc place)) (le-ltb cells place l) ∙ omega arith)
+
+-- at most one more than its cells
+kept-few : (cs : List (List ℕ)) → length (dropEmpty cs) ≤ length cs
+unfolding dropEmpty
+kept-few [] = omega arith
+kept-few (c ∷ cs) = let h = kept-few cs in omega (arith, kept-cons c (dropEmpty cs) 0)
+
+pub count-few : (place : ℕ) (cs : List (List ℕ)) → fieldCount place (length cs) (length (dropEmpty cs)) ≤ suc (length cs)
+unfolding fieldCount pick
+count-few zero cs = omega (arith, kept-few cs)
+count-few (suc k) cs =
+    by-test (ltb (length cs) (suc k))
+    (λ e. rw e (omega arith))
+    (λ e. let h = ltb-false (length cs) (suc k) e in rw e (omega (arith, kept-few cs)))

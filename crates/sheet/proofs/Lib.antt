@@ -5,3 +5,5 @@ pub mod WalkLaws
 pub mod LoneLaws
 pub mod RowBoundLaws
 pub mod RowLaws
+pub mod NameCellLaws
+pub mod PartLaws

@@ -14,6 +14,7 @@ use Rattle.sheet.specs.Code.Cell.{consCell, contentOf, CellAt, CellIs}
 use Rattle.sheet.specs.Code.Row.{LoneIs}
 use Rattle.sheet.specs.Code.Walk.{allEmptyIn, LoneWithin}
 use Rattle.sheet.specs.declared.Cell.{Cell}
+use Rattle.sheet.specs.declared.LoneStep.{LoneStep}
 use Rattle.sheet.specs.declared.LoneStep.the-variants.{Lone, Several}
 use Rattle.sheet.proofs.WalkLaws.{inCell, cell-last, cell-next, plain-rest}
 
@@ -101,3 +102,18 @@ module _ (sep : ℕ) (l : List ℕ) where
     pub lone-last : isRemark sep l ≡ false → length l ≤ c .next → LoneIs sep l (Lone c) × LoneWithin l (Lone c)
     unfolding seen pick consCell allEmptyIn allEmpty
     lone-last n h = lone-is (good []) n (cell-last k h) refl
+
+-- ---- put_line
+
+module _ (sep : ℕ) (l : List ℕ) (r : LoneStep) (i : LoneIs sep l r) where
+  pub several-line : r ≡ Several → lineBy rowLine sep (seen false l) ≡ tableLine sep l
+  unfolding LoneIs seen pick
+  several-line z = let e : LoneIs sep l Several = rw z at i in sym e
+
+  pub lone-line : (c : Cell) → r ≡ Lone c → lineBy rowLine 44 (seen (c .quoted) (slice (c .from) (c .to) l)) ≡ tableLine sep l
+  unfolding LoneIs
+  lone-line c z = let e : LoneIs sep l (Lone c) = rw z at i in sym e
+
+pub lone-within : (l : List ℕ) (r : LoneStep) (c : Cell) → LoneWithin l r → r ≡ Lone c → (c .from ≤ c .to) × (c .to ≤ length l)
+unfolding LoneWithin
+lone-within l r c w z = rw z at w

@@ -1,5 +1,5 @@
 -- How long the line of a row can be.
-use mathlib.Core.Path.{_≡_, refl, ap}
+use mathlib.Core.Path.{_≡_, subst}
 use Prim.Native.Nat.{ℕ, zero, suc, _+_, _*_, _≤_}
 use mathlib.Core.Bool.{Bool, true, false, _||_, _&&_, not}
 use mathlib.Core.List.{List, [], _∷_, _++_}
@@ -114,6 +114,15 @@ seen-few : (twice : Bool) (l : List ℕ) → length (seen twice l) ≤ length l
 unfolding seen pick
 seen-few true l = singled-few l
 seen-few false l = omega arith
+
+few-cells : (n : ℕ) (cs : List (List ℕ)) → Few n (good cs) → length cs ≤ suc n
+unfolding Few
+few-cells n cs h = omega arith
+
+pub cells-few : (sep : ℕ) (twice : Bool) (l : List ℕ) (cs : List (List ℕ)) → cut sep (seen twice l) ≡ good cs → length cs ≤ suc (length l)
+unfolding cut
+cells-few sep twice l cs e =
+    omega (arith, few-cells (length (seen twice l)) cs (subst (Few (length (seen twice l))) e (cut-few sep (seen twice l) (opening sep (seen twice l)))), seen-few twice l)
 
 pub line-few : (sep : ℕ) (twice : Bool) (count place : ℕ) (l : List ℕ) → Fielded count (cut sep (seen twice l)) → length (fieldsOf count place (cut sep (seen twice l))) ≤ 3 * length l + 6
 unfolding cut

@@ -5,7 +5,7 @@ use mathlib.Core.Bool.{Bool, true, false, _&&_, not}
 use mathlib.Core.List.{List, [], _∷_, _++_, append-assoc}
 use native.Mathlib.Omega.{arith}
 use native.Mathlib.Numerals.{add-one}
-use lib.ListN.{length, drop, drop-of-length-le}
+use lib.ListN.{length, take, drop, length-take, length-drop, drop-of-length-le}
 use lib.Dec.{eqb}
 use borrow.Author.Tests.{ne-eqb}
 use Rattle.event.specs.Choice.{pick}
@@ -13,7 +13,7 @@ use Rattle.event_write.specs.Written.{Written}
 use Rattle.event_write.proofs.WriteLaws.{Remains, all-remains, go-on, done}
 use Rattle.midicsv.specs.Result.{Result, good, bad}
 use Rattle.sheet_table.specs.Cut.{begins, skipBeside, bare, opening, cutFrom, cut}
-use Rattle.sheet_table.specs.Table.{furtherJoined, joined}
+use Rattle.sheet_table.specs.Table.{requote, plainCell, furtherJoined, joined}
 use Rattle.sheet.specs.Code.Seen.{seen}
 use Rattle.sheet.specs.Code.Cell.{consCell, CellAt}
 use Rattle.sheet.specs.Code.Row.{fieldAt, fieldsIn}
@@ -49,6 +49,28 @@ module _ (sep : ℕ) (twice : Bool) (l : List ℕ) {p : ℕ} {c : Cell} (k : Cel
   cells-on {q = q} (passed t) f =
       cons-good (inCell twice l c) (cut sep (seen twice (drop q l))) cs (sym (cell-next k _ q (t .rest)) ∙ e) (λ ds y all.
       f ds y (λ n place i. ap (fieldsIn (suc n) place i) all))
+
+-- ---- a comma, and a field
+
+pub no-comma : (i : ℕ) → i ≡ 0 → comma i ≡ []
+unfolding comma pick
+no-comma i e = rw e
+
+pub a-comma : (i : ℕ) → (i ≡ 0 → ⊥) → comma i ≡ 44 ∷ []
+unfolding comma pick
+a-comma i h = rw (ne-eqb i 0 h)
+
+pub comma-few : (i : ℕ) → length (comma i) ≤ 1
+comma-few zero = rw (no-comma zero refl) (omega arith)
+comma-few (suc i) = rw (a-comma (suc i) (λ e. omega arith)) (omega arith)
+
+pub as-field : {old new : List ℕ} {at next : ℕ} (t : Bool) (place i : ℕ) (c : List ℕ) → t ≡ (eqb i place && not (eqb place 0))
+    → Written old at (pick t (requote c) (plainCell c)) new next → Written old at (fieldAt place i c) new next
+unfolding fieldAt
+as-field t place i c e w = rw e at w
+
+pub slice-few : (n a : ℕ) (l : List ℕ) → length (take n (drop a l)) ≤ length l
+slice-few n a l = simp (length-take, length-drop) (omega arith)
 
 -- ---- the loop
 
@@ -96,7 +118,7 @@ fields-turn n place zero cs ds x e = rw e
 fields-turn n place (suc i) cs ds x e =
     later (suc n) place (suc i) cs (omega arith)
     ∙ ap furtherJoined e
-    ∙ sym (ap (λ z. comma (suc i) ++ (x ++ z)) (later n place (suc i + 1) ds (omega arith) ∙ ap (λ j. furtherJoined (fieldsIn n place j ds)) (add-one (suc i))) ∙ rw (ne-eqb (suc i) 0 (omega arith)))
+    ∙ sym (ap (λ z. comma (suc i) ++ (x ++ z)) (later n place (suc i + 1) ds (omega arith) ∙ ap (λ j. furtherJoined (fieldsIn n place j ds)) (add-one (suc i))) ∙ ap (λ z. z ++ (x ++ furtherJoined (fieldsIn n place (suc (suc i)) ds))) (a-comma (suc i) (λ z. omega arith)))
 
 none-left : (n place i : ℕ) (cs : List (List ℕ)) → n ≡ 0 → fieldsLeft n place i cs ≡ []
 unfolding fieldsIn joined furtherJoined pick
