@@ -5,14 +5,10 @@ use borrow.Author.Tests.{not-true, not-false}
 use Rattle.sheet.proofs.WalkLaws.{cell-found, cell-open}
 use Rattle.sheet.proofs.LoneLaws.{Emptied, emptied-first, emptied-open, emptied-not, emptied-last, emptied-on}
 use native.Mathlib.Omega.{arith}
-use mathlib.Core.Path.{_≡_, refl, sym, _∙_, ap}
+use mathlib.Core.Path.{sym, _∙_}
 use borrow.Author.Needs.{needs}
 use Rattle.sheet.proofs.lines.are_empty.Statement.{statement}
 use Rattle.sheet.proofs.lines.are_empty.Tie as tie
-use Rattle.sheet.proofs.lines.are_empty.Reads as reads
-use Rattle.sheet.proofs.lines.are_empty.Lts as lts
-use Rattle.sheet.proofs.cutting.cell_at.Reads as cell-at-reads
-use Rattle.sheet.proofs.part.is_empty_cell.Reads as is-empty-cell-reads
 
 abbrev Inv-loop : tie.InvT-loop
 Inv-loop line from sep at₀ at = Emptied sep line from at
@@ -20,67 +16,53 @@ Inv-loop line from sep at₀ at = Emptied sep line from at
 abbrev μ-loop : tie.MeasureT-loop
 μ-loop line from sep at₀ at = length line - at
 
--- src/lines.rt:25:5
 loop-holds : tie.Need-loop-holds Inv-loop μ-loop
 loop-holds c = emptied-first _ _ _ (c .before .pre)
 
--- src/lines.rt:26:37
 cell-at-requires : tie.Need-cell-at-requires Inv-loop μ-loop
 cell-at-requires c κs = c .loop .inv .inside
 
--- src/lines.rt:26:29
 enum-known-cell : tie.Need-enum-known-cell Inv-loop μ-loop
 enum-known-cell c = search needs
 
--- src/lines.rt:27:13
 enum-told : tie.Need-enum-told Inv-loop μ-loop
 enum-told c = search needs
 
--- src/lines.rt:27:13
 returns : tie.Need-returns Inv-loop μ-loop
 returns c = emptied-open (c .before .before .before .loop .inv) (cell-open (c .before .before .before .before .before .args .sep) false (c .before .before .before .before .before .args .line .now) (c .before .before .before .loop .at) (c .before .before .cell-at .result) (c .before .before .cell-at .ensures) (c .enum-told .given .1))
 
--- src/lines.rt:33:27
 sub-is-empty-cell : tie.Need-sub-is-empty-cell Inv-loop μ-loop
 sub-is-empty-cell c = cell-found (c .before .before .before .before .before .before .args .sep) false (c .before .before .before .before .before .before .args .line .now) (c .before .before .before .before .loop .at) (c .before .before .before .cell-at .result) (c .before .before .before .cell-at .ensures) _ (c .before .cell .given .1) .ordered
 
--- src/lines.rt:33:27
 part-is-empty-cell-start : tie.Need-part-is-empty-cell-start Inv-loop μ-loop
 part-is-empty-cell-start c = cell-found (c .before .before .before .before .before .before .args .sep) false (c .before .before .before .before .before .before .args .line .now) (c .before .before .before .before .loop .at) (c .before .before .before .cell-at .result) (c .before .before .before .cell-at .ensures) _ (c .before .cell .given .1) .ordered
 
--- src/lines.rt:33:27
 part-is-empty-cell-end : tie.Need-part-is-empty-cell-end Inv-loop μ-loop
 part-is-empty-cell-end c =
     let k = cell-found (c .before .before .before .before .before .before .args .sep) false (c .before .before .before .before .before .before .args .line .now) (c .before .before .before .before .loop .at) (c .before .before .before .cell-at .result) (c .before .before .before .cell-at .ensures) _ (c .before .cell .given .1) in
     omega (arith, k .before, k .inside)
 
--- src/lines.rt:33:13
 is-empty-cell-requires : tie.Need-is-empty-cell-requires Inv-loop μ-loop
 is-empty-cell-requires c κs = search needs
 
--- src/lines.rt:34:13
 returns-2 : tie.Need-returns-2 Inv-loop μ-loop
 returns-2 c =
     let k = cell-found (c .before .before .before .before .before .before .before .before .before .args .sep) false (c .before .before .before .before .before .before .before .before .before .args .line .now) (c .before .before .before .before .before .before .before .loop .at) (c .before .before .before .before .before .before .cell-at .result) (c .before .before .before .before .before .before .cell-at .ensures) _ (c .before .before .before .before .cell .given .1) in
     emptied-not (c .before .before .before .before .before .before .before .loop .inv) k (sym (c .before .is-empty-cell .ensures) ∙ not-true (c .before .is-empty-cell .result) (c .if1 .taken))
 
--- src/lines.rt:37:13
 returns-3 : tie.Need-returns-3 Inv-loop μ-loop
 returns-3 c =
     let k = cell-found (c .before .before .before .before .before .before .before .before .before .before .args .sep) false (c .before .before .before .before .before .before .before .before .before .before .args .line .now) (c .before .before .before .before .before .before .before .before .loop .at) (c .before .before .before .before .before .before .before .cell-at .result) (c .before .before .before .before .before .before .before .cell-at .ensures) _ (c .before .before .before .before .before .cell .given .1) in
     emptied-last (c .before .before .before .before .before .before .before .before .loop .inv) k (sym (c .before .before .is-empty-cell .ensures) ∙ not-false (c .before .before .is-empty-cell .result) (c .before .if1 .left)) (c .if2 .taken)
 
--- src/lines.rt:39:14
 add-at : tie.Need-add-at Inv-loop μ-loop
 add-at c = search needs
 
--- src/lines.rt:25:5
 loop-less : tie.Need-loop-less Inv-loop μ-loop
 loop-less c =
     let k = cell-found (c .before .before .before .before .before .before .before .before .before .before .args .sep) false (c .before .before .before .before .before .before .before .before .before .before .args .line .now) (c .before .before .before .before .before .before .before .before .loop .at) (c .before .before .before .before .before .before .before .cell-at .result) (c .before .before .before .before .before .before .before .cell-at .ensures) _ (c .before .before .before .before .before .cell .given .1) in
     omega (arith, k .after, k .ordered, k .before, c .if2 .left)
 
--- src/lines.rt:25:5
 loop-again : tie.Need-loop-again Inv-loop μ-loop
 loop-again c =
     let k = cell-found (c .before .before .before .before .before .before .before .before .before .before .args .sep) false (c .before .before .before .before .before .before .before .before .before .before .args .line .now) (c .before .before .before .before .before .before .before .before .loop .at) (c .before .before .before .before .before .before .before .cell-at .result) (c .before .before .before .before .before .before .before .cell-at .ensures) _ (c .before .before .before .before .before .cell .given .1) in

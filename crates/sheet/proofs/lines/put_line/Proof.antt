@@ -2,60 +2,43 @@ use Prim.Native.Nat.{_-_}
 use Rattle.sheet.proofs.LoneLaws.{several-line, lone-line, lone-within}
 use Rattle.sheet.proofs.RowLaws.{slice-few}
 use native.Mathlib.Omega.{arith}
-use mathlib.Core.Path.{_≡_, refl, sym, _∙_, ap}
 use borrow.Author.Needs.{needs}
 use Rattle.sheet.proofs.lines.put_line.Statement.{statement}
 use Rattle.sheet.proofs.lines.put_line.Tie as tie
-use Rattle.sheet.proofs.lines.put_line.Reads as reads
-use Rattle.sheet.proofs.lines.put_line.Lts as lts
-use Rattle.sheet.proofs.lines.lone_cell.Reads as lone-cell-reads
-use Rattle.sheet.proofs.rows.put_part.Reads as put-part-reads
 
--- src/lines.rt:68:32
 lone-cell-requires : tie.Need-lone-cell-requires
 lone-cell-requires c κs = search needs
 
--- src/lines.rt:68:24
 enum-known-cell : tie.Need-enum-known-cell
 enum-known-cell c = search needs
 
--- src/lines.rt:69:25
 enum-told : tie.Need-enum-told
 enum-told c = search needs
 
--- src/lines.rt:69:9
 put-part-requires : tie.Need-put-part-requires
 put-part-requires c κs = search needs
 
--- src/lines.rt:69:9
 same-length : tie.Need-same-length
 same-length c = search needs
 
--- src/lines.rt:69:9
 returns : tie.Need-returns
 returns c = rw (← several-line (c .before .before .before .before .before .before .before .before .before .args .sep) (c .before .before .before .before .before .before .before .before .before .args .line .now) (c .before .before .before .before .before .before .lone-cell .result) (c .before .before .before .before .before .before .lone-cell .ensures .0) (c .before .before .before .before .enum-told .given .1)) (c .before .before .put-part .ensures)
 
--- src/lines.rt:74:23
 sub-put-part : tie.Need-sub-put-part
 sub-put-part c = lone-within (c .before .before .before .before .before .before .before .args .line .now) (c .before .before .before .before .lone-cell .result) _ (c .before .before .before .before .lone-cell .ensures .1) (c .before .before .cell .given .1) .0
 
--- src/lines.rt:74:23
 part-put-part-start : tie.Need-part-put-part-start
 part-put-part-start c = lone-within (c .before .before .before .before .before .before .before .args .line .now) (c .before .before .before .before .lone-cell .result) _ (c .before .before .before .before .lone-cell .ensures .1) (c .before .before .cell .given .1) .0
 
--- src/lines.rt:74:23
 part-put-part-end : tie.Need-part-put-part-end
 part-put-part-end c = lone-within (c .before .before .before .before .before .before .before .args .line .now) (c .before .before .before .before .lone-cell .result) _ (c .before .before .before .before .lone-cell .ensures .1) (c .before .before .cell .given .1) .1
 
--- src/lines.rt:74:5
 put-part-requires-2 : tie.Need-put-part-requires-2
 put-part-requires-2 c κs = (c .before .before .before .before .before .before .before .before .pre .0, omega (arith, slice-few (c .before .before .before .cell .given .0 .0 .to - c .before .before .before .cell .given .0 .0 .from) (c .before .before .before .cell .given .0 .0 .from) (c .before .before .before .before .before .before .before .before .args .line .now), c .before .before .before .before .before .before .before .before .pre .1))
 
--- src/lines.rt:64:1
 same-length-2 : tie.Need-same-length-2
 same-length-2 c = search needs
 
--- src/lines.rt:64:1
 returns-2 : tie.Need-returns-2
 returns-2 c = rw (← lone-line (c .before .before .before .before .before .before .before .before .before .before .before .args .sep) (c .before .before .before .before .before .before .before .before .before .before .before .args .line .now) (c .before .before .before .before .before .before .before .before .lone-cell .result) (c .before .before .before .before .before .before .before .before .lone-cell .ensures .0) _ (c .before .before .before .before .before .before .cell .given .1)) (c .before .before .put-part2 .ensures)
 

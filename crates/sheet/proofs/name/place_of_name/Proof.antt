@@ -5,120 +5,91 @@ use Rattle.event.specs.Choice.{pick}
 use Rattle.sheet_table.specs.Table.{textFrom, textOfName}
 use Rattle.sheet.specs.Code.Row.{placeAs}
 use Rattle.sheet.proofs.PlaceLaws.{named, unnamed}
-use native.Mathlib.Omega.{arith}
-use mathlib.Core.Path.{_≡_, refl, sym, _∙_, ap}
+use mathlib.Core.Path.{sym, _∙_}
 use borrow.Author.Needs.{needs}
 use Rattle.sheet.proofs.name.place_of_name.Statement.{statement}
 use Rattle.sheet.proofs.name.place_of_name.Tie as tie
-use Rattle.sheet.proofs.name.place_of_name.Reads as reads
-use Rattle.sheet.proofs.name.place_of_name.Lts as lts
-use Rattle.midicsv_record.proofs.name.same_name.Reads as same-name-reads
 
--- src/name.rt:17:24
 slice-aggregate-same-name : tie.Need-slice-aggregate-same-name
 slice-aggregate-same-name c = search needs
 
--- src/name.rt:17:8
 same-name-requires : tie.Need-same-name-requires
 same-name-requires c κs = search needs
 
--- src/name.rt:18:9
 returns : tie.Need-returns
 unfolding placeAs textOfName textFrom find pick sameName lower spelled eventSpelled shape eventShape
 returns c = named (c .before .before .before .before .args .name .now) (bytes "Text_t") (sym (c .before .same-name .ensures) ∙ c .if1 .taken)
 
--- src/name.rt:20:24
 slice-aggregate-same-name-2 : tie.Need-slice-aggregate-same-name-2
 slice-aggregate-same-name-2 c = search needs
 
--- src/name.rt:20:8
 same-name-requires-2 : tie.Need-same-name-requires-2
 same-name-requires-2 c κs = search needs
 
--- src/name.rt:21:9
 returns-2 : tie.Need-returns-2
 unfolding placeAs textOfName textFrom find pick sameName lower spelled eventSpelled shape eventShape
 returns-2 c = named (c .before .before .before .before .before .before .before .args .name .now) (bytes "Copyright_t") (sym (c .before .same-name2 .ensures) ∙ c .if2 .taken)
 
--- src/name.rt:23:24
 slice-aggregate-same-name-3 : tie.Need-slice-aggregate-same-name-3
 slice-aggregate-same-name-3 c = search needs
 
--- src/name.rt:23:8
 same-name-requires-3 : tie.Need-same-name-requires-3
 same-name-requires-3 c κs = search needs
 
--- src/name.rt:24:9
 returns-3 : tie.Need-returns-3
 unfolding placeAs textOfName textFrom find pick sameName lower spelled eventSpelled shape eventShape
 returns-3 c = named (c .before .before .before .before .before .before .before .before .before .before .args .name .now) (bytes "Title_t") (sym (c .before .same-name3 .ensures) ∙ c .if3 .taken)
 
--- src/name.rt:26:24
 slice-aggregate-same-name-4 : tie.Need-slice-aggregate-same-name-4
 slice-aggregate-same-name-4 c = search needs
 
--- src/name.rt:26:8
 same-name-requires-4 : tie.Need-same-name-requires-4
 same-name-requires-4 c κs = search needs
 
--- src/name.rt:27:9
 returns-4 : tie.Need-returns-4
 unfolding placeAs textOfName textFrom find pick sameName lower spelled eventSpelled shape eventShape
 returns-4 c = named (c .before .before .before .before .before .before .before .before .before .before .before .before .before .args .name .now) (bytes "Instrument_name_t") (sym (c .before .same-name4 .ensures) ∙ c .if4 .taken)
 
--- src/name.rt:29:24
 slice-aggregate-same-name-5 : tie.Need-slice-aggregate-same-name-5
 slice-aggregate-same-name-5 c = search needs
 
--- src/name.rt:29:8
 same-name-requires-5 : tie.Need-same-name-requires-5
 same-name-requires-5 c κs = search needs
 
--- src/name.rt:30:9
 returns-5 : tie.Need-returns-5
 unfolding placeAs textOfName textFrom find pick sameName lower spelled eventSpelled shape eventShape
 returns-5 c = named (c .before .before .before .before .before .before .before .before .before .before .before .before .before .before .before .before .args .name .now) (bytes "Lyric_t") (sym (c .before .same-name5 .ensures) ∙ c .if5 .taken)
 
--- src/name.rt:32:24
 slice-aggregate-same-name-6 : tie.Need-slice-aggregate-same-name-6
 slice-aggregate-same-name-6 c = search needs
 
--- src/name.rt:32:8
 same-name-requires-6 : tie.Need-same-name-requires-6
 same-name-requires-6 c κs = search needs
 
--- src/name.rt:33:9
 returns-6 : tie.Need-returns-6
 unfolding placeAs textOfName textFrom find pick sameName lower spelled eventSpelled shape eventShape
 returns-6 c = named (c .before .before .before .before .before .before .before .before .before .before .before .before .before .before .before .before .before .before .before .args .name .now) (bytes "Marker_t") (sym (c .before .same-name6 .ensures) ∙ c .if6 .taken)
 
--- src/name.rt:35:24
 slice-aggregate-same-name-7 : tie.Need-slice-aggregate-same-name-7
 slice-aggregate-same-name-7 c = search needs
 
--- src/name.rt:35:8
 same-name-requires-7 : tie.Need-same-name-requires-7
 same-name-requires-7 c κs = search needs
 
--- src/name.rt:36:9
 returns-7 : tie.Need-returns-7
 unfolding placeAs textOfName textFrom find pick sameName lower spelled eventSpelled shape eventShape
 returns-7 c = named (c .before .before .before .before .before .before .before .before .before .before .before .before .before .before .before .before .before .before .before .before .before .before .args .name .now) (bytes "Cue_point_t") (sym (c .before .same-name7 .ensures) ∙ c .if7 .taken)
 
--- src/name.rt:38:24
 slice-aggregate-same-name-8 : tie.Need-slice-aggregate-same-name-8
 slice-aggregate-same-name-8 c = search needs
 
--- src/name.rt:38:8
 same-name-requires-8 : tie.Need-same-name-requires-8
 same-name-requires-8 c κs = search needs
 
--- src/name.rt:39:9
 returns-8 : tie.Need-returns-8
 unfolding placeAs textOfName textFrom find pick sameName lower spelled eventSpelled shape eventShape
 returns-8 c = named (c .before .before .before .before .before .before .before .before .before .before .before .before .before .before .before .before .before .before .before .before .before .before .before .before .before .args .name .now) (bytes "Key_signature") (sym (c .before .same-name8 .ensures) ∙ c .if8 .taken)
 
--- src/name.rt:14:1
 returns-9 : tie.Need-returns-9
 unfolding placeAs
 returns-9 c =

@@ -1,85 +1,63 @@
-use mathlib.Core.Path.{subst}
+use mathlib.Core.Path.{subst, _∙_}
 use Rattle.midicsv_scan.specs.FieldStep.{Within}
 use Rattle.sheet.specs.Code.Row.{placeAs}
 use Rattle.sheet.proofs.NameCellLaws.{number-here, minus-here, quoted-here, bad-here, short-here, name-here}
-use native.Mathlib.Omega.{arith}
-use mathlib.Core.Path.{_≡_, refl, sym, _∙_, ap}
 use borrow.Author.Needs.{needs}
 use Rattle.sheet.proofs.name.text_place.Statement.{statement}
 use Rattle.sheet.proofs.name.text_place.Tie as tie
-use Rattle.sheet.proofs.name.text_place.Reads as reads
-use Rattle.sheet.proofs.name.text_place.Lts as lts
-use Rattle.midicsv_scan.proofs.field.field_at.Reads as field-at-reads
-use Rattle.sheet.proofs.name.place_of_name.Reads as place-of-name-reads
 
--- src/name.rt:49:11
 field-at-requires : tie.Need-field-at-requires
 field-at-requires c κs = search needs
 
--- src/name.rt:50:37
 enum-told : tie.Need-enum-told
 enum-told c = search needs
 
--- src/name.rt:51:36
 enum-told-2 : tie.Need-enum-told-2
 enum-told-2 c = search needs
 
--- src/name.rt:52:27
 enum-known-start : tie.Need-enum-known-start
 enum-known-start c = search needs
 
--- src/name.rt:54:17
 returns : tie.Need-returns
 unfolding placeAs
 returns c = short-here (c .before .before .before .before .before .before .args .twice) (c .before .before .before .before .before .before .args .quoted) (c .before .before .before .before .before .before .args .raw .now) (c .before .before .before .before .field-at .result) (c .before .before .before .before .field-at .ensures .0) _ _ _ (c .before .before .start .given .1) (c .if1 .taken)
 
--- src/name.rt:56:27
 sub-place-of-name : tie.Need-sub-place-of-name
 unfolding Within
 sub-place-of-name c = subst (Within (c .before .before .before .before .before .before .args .raw .now) 0) (c .before .before .start .given .1) (c .before .before .before .before .field-at .ensures .1) .0
 
--- src/name.rt:56:27
 part-place-of-name-start : tie.Need-part-place-of-name-start
 unfolding Within
 part-place-of-name-start c = subst (Within (c .before .before .before .before .before .before .args .raw .now) 0) (c .before .before .start .given .1) (c .before .before .before .before .field-at .ensures .1) .0
 
--- src/name.rt:56:27
 part-place-of-name-end : tie.Need-part-place-of-name-end
 unfolding Within
 part-place-of-name-end c = subst (Within (c .before .before .before .before .before .before .args .raw .now) 0) (c .before .before .start .given .1) (c .before .before .before .before .field-at .ensures .1) .1
 
--- src/name.rt:56:13
 place-of-name-requires : tie.Need-place-of-name-requires
 place-of-name-requires c κs = search needs
 
--- src/name.rt:58:37
 enum-told-3 : tie.Need-enum-told-3
 enum-told-3 c = search needs
 
--- src/name.rt:59:32
 enum-told-4 : tie.Need-enum-told-4
 enum-told-4 c = search needs
 
--- src/name.rt:46:1
 returns-2 : tie.Need-returns-2
 unfolding placeAs
 returns-2 c = number-here (c .before .before .before .before .args .twice) (c .before .before .before .before .args .quoted) (c .before .before .before .before .args .raw .now) (c .before .before .field-at .result) (c .before .before .field-at .ensures .0) _ _ (c .enum-told .given .1)
 
--- src/name.rt:46:1
 returns-3 : tie.Need-returns-3
 unfolding placeAs
 returns-3 c = minus-here (c .before .before .before .before .args .twice) (c .before .before .before .before .args .quoted) (c .before .before .before .before .args .raw .now) (c .before .before .field-at .result) (c .before .before .field-at .ensures .0) _ _ (c .enum-told2 .given .1)
 
--- src/name.rt:46:1
 returns-4 : tie.Need-returns-4
 returns-4 c = c .place-of-name .ensures ∙ name-here (c .before .before .before .before .before .before .before .before .args .twice) (c .before .before .before .before .before .before .before .before .args .quoted) (c .before .before .before .before .before .before .before .before .args .raw .now) (c .before .before .before .before .before .before .field-at .result) (c .before .before .before .before .before .before .field-at .ensures .0) _ _ _ (c .before .before .before .before .start .given .1) (c .before .before .if1 .left)
 
--- src/name.rt:46:1
 returns-5 : tie.Need-returns-5
 unfolding placeAs
 returns-5 c = quoted-here (c .before .before .before .before .args .twice) (c .before .before .before .before .args .quoted) (c .before .before .before .before .args .raw .now) (c .before .before .field-at .result) (c .before .before .field-at .ensures .0) _ _ (c .enum-told3 .given .1)
 
--- src/name.rt:46:1
 returns-6 : tie.Need-returns-6
 unfolding placeAs
 returns-6 c = bad-here (c .before .before .before .before .args .twice) (c .before .before .before .before .args .quoted) (c .before .before .before .before .args .raw .now) (c .before .before .field-at .result) (c .before .before .field-at .ensures .0) (c .enum-told4 .given .1)

@@ -1,29 +1,20 @@
 use Rattle.sheet.proofs.FieldsInLaws.{count-nowhere, count-short, count-empty, count-kept}
-use native.Mathlib.Omega.{arith}
-use mathlib.Core.Path.{_≡_, refl, sym, _∙_, ap}
 use borrow.Author.Needs.{needs}
 use Rattle.sheet.proofs.rows.field_count.Statement.{statement}
 use Rattle.sheet.proofs.rows.field_count.Tie as tie
-use Rattle.sheet.proofs.rows.field_count.Reads as reads
-use Rattle.sheet.proofs.rows.field_count.Lts as lts
 
--- src/rows.rt:93:9
 returns : tie.Need-returns
 returns c = count-nowhere (c .before .args .row .place) (c .before .args .row .cells) (c .before .args .row .kept) (c .if1 .taken)
 
--- src/rows.rt:96:9
 returns-2 : tie.Need-returns-2
 returns-2 c = count-short (c .before .before .args .row .place) (c .before .before .args .row .cells) (c .before .before .args .row .kept) (c .before .if1 .left) (c .if2 .taken)
 
--- src/rows.rt:99:16
 add-result : tie.Need-add-result
 add-result c = search needs
 
--- src/rows.rt:99:9
 returns-3 : tie.Need-returns-3
 returns-3 c = count-empty (c .before .before .before .args .row .place) (c .before .before .before .args .row .cells) (c .before .before .before .args .row .kept) (c .before .before .if1 .left) (c .before .if2 .left) (c .if3 .taken)
 
--- src/rows.rt:86:1
 returns-4 : tie.Need-returns-4
 returns-4 c = count-kept (c .before .before .before .args .row .place) (c .before .before .before .args .row .cells) (c .before .before .before .args .row .kept) (c .before .before .if1 .left) (c .before .if2 .left) (c .if3 .left)
 

@@ -1,19 +1,13 @@
 use mathlib.Core.Bool.{and-false, and-true}
 use lib.Dec.{eqb}
 use borrow.Author.Tests.{eq-eqb, ne-eqb}
-use native.Mathlib.Omega.{arith}
-use mathlib.Core.Path.{_≡_, refl, sym, _∙_, ap}
-use borrow.Author.Needs.{needs}
+use mathlib.Core.Path.{sym}
 use Rattle.sheet.proofs.rows.is_text.Statement.{statement}
 use Rattle.sheet.proofs.rows.is_text.Tie as tie
-use Rattle.sheet.proofs.rows.is_text.Reads as reads
-use Rattle.sheet.proofs.rows.is_text.Lts as lts
 
--- src/rows.rt:120:9
 returns : tie.Need-returns
 returns c = rw (eq-eqb (c .before .args .place) 0 (c .if1 .taken)) (sym (and-false (eqb (c .before .args .i) (c .before .args .place))))
 
--- src/rows.rt:116:1
 returns-2 : tie.Need-returns-2
 returns-2 c = rw (ne-eqb (c .before .args .place) 0 (c .if1 .left)) (sym (and-true (eqb (c .before .args .i) (c .before .args .place))))
 

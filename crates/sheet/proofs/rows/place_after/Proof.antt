@@ -1,23 +1,16 @@
 use borrow.Author.Tests.{eq-eqb, ne-eqb}
 use Rattle.event.proofs.ChoiceLaws.{pick-true, pick-false}
-use native.Mathlib.Omega.{arith}
-use mathlib.Core.Path.{_≡_, refl, sym, _∙_, ap}
+use mathlib.Core.Path.{sym, _∙_}
 use borrow.Author.Needs.{needs}
 use Rattle.sheet.proofs.rows.place_after.Statement.{statement}
 use Rattle.sheet.proofs.rows.place_after.Tie as tie
-use Rattle.sheet.proofs.rows.place_after.Reads as reads
-use Rattle.sheet.proofs.rows.place_after.Lts as lts
-use Rattle.sheet.proofs.name.text_place.Reads as text-place-reads
 
--- src/rows.rt:43:9
 text-place-requires : tie.Need-text-place-requires
 text-place-requires c κs = search needs
 
--- src/rows.rt:43:9
 returns : tie.Need-returns
 returns c = c .text-place .ensures ∙ sym (pick-true _ _ (eq-eqb (c .before .before .before .args .cells) 3 (c .before .if1 .taken)))
 
--- src/rows.rt:39:1
 returns-2 : tie.Need-returns-2
 returns-2 c = sym (pick-false _ _ (ne-eqb (c .before .before .args .cells) 3 (c .if1 .left)))
 

@@ -1,27 +1,18 @@
 use Rattle.event_write.proofs.WriteLaws.{nothing}
 use Rattle.sheet.proofs.RowLaws.{no-comma, a-comma}
-use native.Mathlib.Omega.{arith}
-use mathlib.Core.Path.{_≡_, refl, sym, _∙_, ap}
 use borrow.Author.Needs.{needs}
 use Rattle.sheet.proofs.rows.put_comma.Statement.{statement}
 use Rattle.sheet.proofs.rows.put_comma.Tie as tie
-use Rattle.sheet.proofs.rows.put_comma.Reads as reads
-use Rattle.sheet.proofs.rows.put_comma.Lts as lts
-use Rattle.event_write.proofs.bytes.put_byte.Reads as put-byte-reads
 
--- src/rows.rt:110:9
 returns : tie.Need-returns
 returns c = rw (no-comma (c .before .before .args .i) (c .if1 .taken)) (nothing _ _)
 
--- src/rows.rt:112:5
 put-byte-requires : tie.Need-put-byte-requires
 put-byte-requires c κs = search needs
 
--- src/rows.rt:105:1
 same-length : tie.Need-same-length
 same-length c = search needs
 
--- src/rows.rt:105:1
 returns-2 : tie.Need-returns-2
 returns-2 c = rw (a-comma (c .before .before .before .before .before .before .args .i) (c .before .before .before .before .if1 .left)) (c .before .before .put-byte .ensures)
 

@@ -1,75 +1,50 @@
-use mathlib.Core.Path.{subst}
 use Rattle.event.specs.Choice.{pick}
-use Rattle.event_write.specs.Written.{Written}
 use Rattle.sheet.proofs.PartLaws.{remark-part, uncut-part, cells-counted, cells-fielded, cells-part}
-use native.Mathlib.Omega.{arith}
-use mathlib.Core.Path.{_≡_, refl, sym, _∙_, ap}
+use mathlib.Core.Path.{sym, _∙_}
 use borrow.Author.Needs.{needs}
 use Rattle.sheet.proofs.rows.put_part.Statement.{statement}
 use Rattle.sheet.proofs.rows.put_part.Tie as tie
-use Rattle.sheet.proofs.rows.put_part.Reads as reads
-use Rattle.sheet.proofs.rows.put_part.Lts as lts
-use Rattle.event_write.proofs.bytes.put_byte.Reads as put-byte-reads
-use Rattle.sheet.proofs.field.put_seen.Reads as put-seen-reads
-use Rattle.sheet.proofs.part.is_remark_line.Reads as is-remark-line-reads
-use Rattle.sheet.proofs.rows.field_count.Reads as field-count-reads
-use Rattle.sheet.proofs.rows.look.Reads as look-reads
-use Rattle.sheet.proofs.rows.put_row.Reads as put-row-reads
 
--- src/rows.rt:174:8
 is-remark-line-requires : tie.Need-is-remark-line-requires
 is-remark-line-requires c κs = search needs
 
--- src/rows.rt:175:9
 put-seen-requires : tie.Need-put-seen-requires
 put-seen-requires c κs = search needs
 
--- src/rows.rt:175:9
 same-length : tie.Need-same-length
 same-length c = search needs
 
--- src/rows.rt:175:9
 returns : tie.Need-returns
 unfolding pick
 returns c = rw (← remark-part (c .before .before .before .before .before .before .before .before .args .sep) (c .before .before .before .before .before .before .before .before .args .twice) (c .before .before .before .before .before .before .before .before .args .part .now) (sym (c .before .before .before .before .before .is-remark-line .ensures) ∙ c .before .before .before .before .if1 .taken)) (c .before .before .put-seen .ensures)
 
--- src/rows.rt:177:11
 look-requires : tie.Need-look-requires
 look-requires c κs = search needs
 
--- src/rows.rt:178:36
 enum-told : tie.Need-enum-told
 enum-told c = search needs
 
--- src/rows.rt:178:27
 put-byte-requires : tie.Need-put-byte-requires
 put-byte-requires c κs = search needs
 
--- src/rows.rt:179:24
 enum-known-row : tie.Need-enum-known-row
 enum-known-row c = search needs
 
--- src/rows.rt:180:17
 field-count-requires : tie.Need-field-count-requires
 field-count-requires c κs = cells-counted (c .before .before .before .before .before .before .before .before .args .sep) (c .before .before .before .before .before .before .before .before .args .twice) (c .before .before .before .before .before .before .before .before .args .part .now) (c .before .before .before .look .result) (c .before .before .before .look .ensures) _ (c .before .row .given .1) (c .before .before .before .before .before .before .before .before .pre .1)
 
--- src/rows.rt:182:13
 put-row-requires : tie.Need-put-row-requires
 put-row-requires c κs = (c .before .before .before .before .before .before .before .before .before .before .pre .0, (c .before .before .before .before .before .before .before .before .before .before .pre .1, cells-fielded (c .before .before .before .before .before .before .before .before .before .before .args .sep) (c .before .before .before .before .before .before .before .before .before .before .args .twice) (c .before .before .before .before .before .before .before .before .before .before .args .part .now) (c .before .before .before .before .before .look .result) (c .before .before .before .before .before .look .ensures) _ (c .before .before .before .row .given .1) _ (c .before .field-count .ensures)))
 
--- src/rows.rt:170:1
 same-length-2 : tie.Need-same-length-2
 same-length-2 c = search needs
 
--- src/rows.rt:170:1
 returns-2 : tie.Need-returns-2
 returns-2 c = rw (← uncut-part (c .before .before .before .before .before .before .before .before .before .before .before .args .sep) (c .before .before .before .before .before .before .before .before .before .before .before .args .twice) (c .before .before .before .before .before .before .before .before .before .before .before .args .part .now) (c .before .before .before .before .before .before .look .result) (c .before .before .before .before .before .before .look .ensures) (sym (c .before .before .before .before .before .before .before .before .is-remark-line .ensures) ∙ c .before .before .before .before .before .before .before .if1 .left) (c .before .before .before .before .enum-told .given .1)) (c .before .before .put-byte .ensures)
 
--- src/rows.rt:170:1
 same-length-3 : tie.Need-same-length-3
 same-length-3 c = search needs
 
--- src/rows.rt:170:1
 returns-3 : tie.Need-returns-3
 returns-3 c = rw (← cells-part (c .before .before .before .before .before .before .before .before .before .before .before .before .before .args .sep) (c .before .before .before .before .before .before .before .before .before .before .before .before .before .args .twice) (c .before .before .before .before .before .before .before .before .before .before .before .before .before .args .part .now) (c .before .before .before .before .before .before .before .before .look .result) (c .before .before .before .before .before .before .before .before .look .ensures) _ (c .before .before .before .before .before .before .row .given .1) _ (c .before .before .before .before .field-count .ensures) (sym (c .before .before .before .before .before .before .before .before .before .before .is-remark-line .ensures) ∙ c .before .before .before .before .before .before .before .before .before .if1 .left)) (c .before .before .put-row .ensures)
 

@@ -3,17 +3,10 @@ use lib.ListN.{length}
 use Rattle.sheet.proofs.WalkLaws.{cell-found, cell-open}
 use Rattle.sheet.proofs.RowLaws.{comma-few, as-field, slice-few, RowLeft, row-first, row-place, row-open, row-on, row-done}
 use native.Mathlib.Omega.{arith}
-use mathlib.Core.Path.{_≡_, refl, sym, _∙_, ap}
+use mathlib.Core.Path.{_≡_, refl, _∙_}
 use borrow.Author.Needs.{needs}
 use Rattle.sheet.proofs.rows.put_row.Statement.{statement}
 use Rattle.sheet.proofs.rows.put_row.Tie as tie
-use Rattle.sheet.proofs.rows.put_row.Reads as reads
-use Rattle.sheet.proofs.rows.put_row.Lts as lts
-use Rattle.sheet.proofs.cutting.cell_at.Reads as cell-at-reads
-use Rattle.sheet.proofs.field.put_cell.Reads as put-cell-reads
-use Rattle.sheet.proofs.rows.after_cell.Reads as after-cell-reads
-use Rattle.sheet.proofs.rows.is_text.Reads as is-text-reads
-use Rattle.sheet.proofs.rows.put_comma.Reads as put-comma-reads
 
 abbrev Inv-loop : tie.InvT-loop
 Inv-loop out₀ at part sep twice count place next₀ p₀ i₀ out next p i = (length out ≡ length out₀) × RowLeft sep twice part count place out₀ at out next p i
@@ -21,83 +14,65 @@ Inv-loop out₀ at part sep twice count place next₀ p₀ i₀ out next p i = (
 abbrev μ-loop : tie.MeasureT-loop
 μ-loop out₀ at part sep twice count place next₀ p₀ i₀ out next p i = count - i
 
--- src/rows.rt:152:5
 loop-holds : tie.Need-loop-holds Inv-loop μ-loop
 loop-holds c = (refl, row-first _ _ _ _ _ _ _ (c .before .before .pre .1 .1))
 
--- src/rows.rt:153:13
 put-comma-requires : tie.Need-put-comma-requires Inv-loop μ-loop
 put-comma-requires c κs = omega (arith, row-place (c .before .before .loop .inv .1) (c .before .before .before .before .before .pre .1 .1), c .before .before .before .before .before .pre .0, c .before .before .before .before .before .pre .1 .0)
 
--- src/rows.rt:154:37
 cell-at-requires : tie.Need-cell-at-requires Inv-loop μ-loop
 cell-at-requires c κs = c .before .before .before .before .before .loop .inv .1 .inside
 
--- src/rows.rt:154:29
 enum-known-cell : tie.Need-enum-known-cell Inv-loop μ-loop
 enum-known-cell c = search needs
 
--- src/rows.rt:155:13
 enum-told : tie.Need-enum-told Inv-loop μ-loop
 enum-told c = search needs
 
--- src/rows.rt:155:13
 same-length : tie.Need-same-length Inv-loop μ-loop
 same-length c = c .before .before .before .before .before .put-comma .kept .0 ∙ c .before .before .before .before .before .before .before .before .loop .inv .0
 
--- src/rows.rt:155:13
 returns : tie.Need-returns Inv-loop μ-loop
 returns c = row-open (c .before .before .before .before .before .before .before .before .loop .inv .1) (cell-open (c .before .before .before .before .before .before .before .before .before .before .before .args .sep) (c .before .before .before .before .before .before .before .before .before .before .before .args .twice) (c .before .before .before .before .before .before .before .before .before .before .before .args .part .now) (c .before .before .before .before .before .before .before .before .loop .p) (c .before .before .cell-at .result) (c .before .before .cell-at .ensures) (c .enum-told .given .1))
 
--- src/rows.rt:161:13
 is-text-requires : tie.Need-is-text-requires Inv-loop μ-loop
 is-text-requires c κs = search needs
 
--- src/rows.rt:162:37
 sub-put-cell : tie.Need-sub-put-cell Inv-loop μ-loop
 sub-put-cell c = cell-found (c .before .before .before .before .before .before .before .before .before .before .before .before .before .before .args .sep) (c .before .before .before .before .before .before .before .before .before .before .before .before .before .before .args .twice) (c .before .before .before .before .before .before .before .before .before .before .before .before .before .before .args .part .now) (c .before .before .before .before .before .before .before .before .before .before .before .loop .p) (c .before .before .before .before .before .cell-at .result) (c .before .before .before .before .before .cell-at .ensures) _ (c .before .before .before .cell .given .1) .ordered
 
--- src/rows.rt:162:37
 part-put-cell-start : tie.Need-part-put-cell-start Inv-loop μ-loop
 part-put-cell-start c = cell-found (c .before .before .before .before .before .before .before .before .before .before .before .before .before .before .args .sep) (c .before .before .before .before .before .before .before .before .before .before .before .before .before .before .args .twice) (c .before .before .before .before .before .before .before .before .before .before .before .before .before .before .args .part .now) (c .before .before .before .before .before .before .before .before .before .before .before .loop .p) (c .before .before .before .before .before .cell-at .result) (c .before .before .before .before .before .cell-at .ensures) _ (c .before .before .before .cell .given .1) .ordered
 
--- src/rows.rt:162:37
 part-put-cell-end : tie.Need-part-put-cell-end Inv-loop μ-loop
 part-put-cell-end c =
     let k = cell-found (c .before .before .before .before .before .before .before .before .before .before .before .before .before .before .args .sep) (c .before .before .before .before .before .before .before .before .before .before .before .before .before .before .args .twice) (c .before .before .before .before .before .before .before .before .before .before .before .before .before .before .args .part .now) (c .before .before .before .before .before .before .before .before .before .before .before .loop .p) (c .before .before .before .before .before .cell-at .result) (c .before .before .before .before .before .cell-at .ensures) _ (c .before .before .before .cell .given .1) in
     omega (arith, k .before, k .inside)
 
--- src/rows.rt:162:9
 put-cell-requires : tie.Need-put-cell-requires Inv-loop μ-loop
 put-cell-requires c κs =
     let k = cell-found (c .before .before .before .before .before .before .before .before .before .before .before .before .before .before .before .args .sep) (c .before .before .before .before .before .before .before .before .before .before .before .before .before .before .before .args .twice) (c .before .before .before .before .before .before .before .before .before .before .before .before .before .before .before .args .part .now) (c .before .before .before .before .before .before .before .before .before .before .before .before .loop .p) (c .before .before .before .before .before .before .cell-at .result) (c .before .before .before .before .before .before .cell-at .ensures) _ (c .before .before .before .before .cell .given .1) in
     (omega (arith, row-place (c .before .before .before .before .before .before .before .before .before .before .before .before .loop .inv .1) (c .before .before .before .before .before .before .before .before .before .before .before .before .before .before .before .pre .1 .1), c .before .before .before .before .before .before .before .before .before .before .before .before .before .before .before .pre .0, c .before .before .before .before .before .before .before .before .before .before .before .before .before .before .before .pre .1 .0, c .before .before .before .before .before .before .before .before .before .put-comma .ensures .place, comma-few (c .before .before .before .before .before .before .before .before .before .before .before .before .loop .i)),
     (omega (arith, slice-few (c .before .before .before .before .cell .given .0 .0 .to - c .before .before .before .before .cell .given .0 .0 .from) (c .before .before .before .before .cell .given .0 .0 .from) (c .before .before .before .before .before .before .before .before .before .before .before .before .before .before .before .args .part .now), c .before .before .before .before .before .before .before .before .before .before .before .before .before .before .before .pre .1 .0), k .paired))
 
--- src/rows.rt:163:9
 after-cell-requires : tie.Need-after-cell-requires Inv-loop μ-loop
 after-cell-requires c κs = cell-found (c .before .before .before .before .before .before .before .before .before .before .before .before .before .before .before .before .before .before .args .sep) (c .before .before .before .before .before .before .before .before .before .before .before .before .before .before .before .before .before .before .args .twice) (c .before .before .before .before .before .before .before .before .before .before .before .before .before .before .before .before .before .before .args .part .now) (c .before .before .before .before .before .before .before .before .before .before .before .before .before .before .before .loop .p) (c .before .before .before .before .before .before .before .before .before .cell-at .result) (c .before .before .before .before .before .before .before .before .before .cell-at .ensures) _ (c .before .before .before .before .before .before .before .cell .given .1) .inside
 
--- src/rows.rt:164:13
 add-i : tie.Need-add-i Inv-loop μ-loop
 add-i c = search needs
 
--- src/rows.rt:152:5
 loop-less : tie.Need-loop-less Inv-loop μ-loop
 loop-less c = search needs
 
--- src/rows.rt:152:5
 loop-again : tie.Need-loop-again Inv-loop μ-loop
 loop-again c =
     let k = cell-found (c .before .before .before .before .before .before .before .before .before .before .before .before .before .before .before .before .before .before .before .args .sep) (c .before .before .before .before .before .before .before .before .before .before .before .before .before .before .before .before .before .before .before .args .twice) (c .before .before .before .before .before .before .before .before .before .before .before .before .before .before .before .before .before .before .before .args .part .now) (c .before .before .before .before .before .before .before .before .before .before .before .before .before .before .before .before .loop .p) (c .before .before .before .before .before .before .before .before .before .before .cell-at .result) (c .before .before .before .before .before .before .before .before .before .before .cell-at .ensures) _ (c .before .before .before .before .before .before .before .before .cell .given .1) in
     (c .before .before .before .put-cell .kept .0 ∙ c .before .before .before .before .before .before .before .before .before .before .before .before .before .put-comma .kept .0 ∙ c .before .before .before .before .before .before .before .before .before .before .before .before .before .before .before .before .loop .inv .0,
     row-on (c .before .before .before .before .before .before .before .before .before .before .before .before .before .before .before .before .loop .inv .1) k (c .before .before .before .before .before .before .before .before .before .before .before .before .before .before .before .loop-test .taken) (c .before .before .before .before .before .before .before .before .before .before .before .before .before .put-comma .ensures) (as-field (c .before .before .before .before .before .before .is-text .result) (c .before .before .before .before .before .before .before .before .before .before .before .before .before .before .before .before .before .before .before .args .place) (c .before .before .before .before .before .before .before .before .before .before .before .before .before .before .before .before .loop .i) _ (c .before .before .before .before .before .before .is-text .ensures) (c .before .before .before .put-cell .ensures)) (c .after-cell .ensures .0) (c .after-cell .ensures .1))
 
--- src/rows.rt:137:1
 same-length-2 : tie.Need-same-length-2 Inv-loop μ-loop
 same-length-2 c = c .before .loop .inv .0
 
--- src/rows.rt:137:1
 returns-2 : tie.Need-returns-2 Inv-loop μ-loop
 returns-2 c = row-done (c .before .loop .inv .1) (c .loop-test .left)
 
