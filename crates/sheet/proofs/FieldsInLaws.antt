@@ -1,16 +1,16 @@
 -- The fields of a row, taken one by one, are its line.
 use mathlib.Core.Path.{_≡_, refl, sym, ap, ap₂, _∙_}
 use Prim.Native.Nat.{ℕ, zero, suc, max, _+_, _<_, _≤_}
-use mathlib.Core.Bool.{Bool, true, false, and-false}
+use mathlib.Core.Bool.{true, false, and-false}
 use mathlib.Core.List.{List, [], _∷_, _++_}
 use native.Mathlib.Omega.{arith}
 use lib.ListN.{length, length-append}
-use lib.Dec.{ltb, eqb, leb·suc-suc}
+use lib.Dec.{ltb, eqb}
 use borrow.Author.Tests.{eq-eqb, ne-eqb, lt-ltb, le-ltb, ltb-true, ltb-false}
 use Rattle.event.specs.Choice.{pick}
 use Rattle.event.proofs.ChoiceLaws.{pick-true, pick-false, by-test}
 use Rattle.midicsv.specs.ReadField.{readField}
-use Rattle.sheet_table.specs.Table.{isEmpty, keepBefore, dropEmpty, requote, plainCell, plainCells, fieldsTo, nowhere, after, nameIn, textOfName, textAt, rowFields, joined, rowLine}
+use Rattle.sheet_table.specs.Table.{isEmpty, keepBefore, dropEmpty, plainCell, plainCells, fieldsTo, after, nameIn, textOfName, textAt, rowFields}
 use Rattle.sheet.specs.Code.Row.{placeAs, fieldAt, fieldsIn, fieldCount, Looked}
 use Rattle.sheet.specs.Code.Walk.{Grown}
 use Rattle.sheet.specs.declared.Row.{Row}

@@ -1,16 +1,16 @@
 -- A line that one cell alone holds.
 use mathlib.Core.Path.{_≡_, refl, sym, ap, _∙_}
 use Prim.Native.Nat.{ℕ, _+_, _<_, _≤_}
-use mathlib.Core.Bool.{Bool, true, false, _&&_}
-use mathlib.Core.List.{List, [], _∷_}
+use mathlib.Core.Bool.{true, false}
+use mathlib.Core.List.{List, []}
 use native.Mathlib.Omega.{arith}
-use lib.ListN.{length, drop, getD}
+use lib.ListN.{length, drop}
 use Rattle.event.specs.Choice.{pick}
 use Rattle.midicsv.specs.Result.{Result, good, bad}
 use Rattle.sheet_table.specs.Cut.{cut}
 use Rattle.sheet_table.specs.Table.{isEmpty, allEmpty, isRemark, ofCut, lineBy, cellsLine, rowLine, tableLine}
-use Rattle.sheet.specs.Code.Seen.{singled, seen, slice}
-use Rattle.sheet.specs.Code.Cell.{consCell, contentOf, CellAt, CellIs}
+use Rattle.sheet.specs.Code.Seen.{seen, slice}
+use Rattle.sheet.specs.Code.Cell.{consCell, contentOf, CellAt}
 use Rattle.sheet.specs.Code.Row.{LoneIs}
 use Rattle.sheet.specs.Code.Walk.{allEmptyIn, LoneWithin}
 use Rattle.sheet.specs.declared.Cell.{Cell}

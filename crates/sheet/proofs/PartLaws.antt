@@ -1,12 +1,12 @@
 -- A part of a line: a remark, a row that cannot be cut, or a row as its fields.
-use mathlib.Core.Path.{_≡_, refl, sym, ap, subst, _∙_}
-use Prim.Native.Nat.{ℕ, suc, _<_, _≤_, _^_}
+use mathlib.Core.Path.{_≡_, sym, ap, subst, _∙_}
+use Prim.Native.Nat.{ℕ, _<_, _≤_, _^_}
 use mathlib.Core.Bool.{Bool, true, false}
 use mathlib.Core.List.{List, [], _∷_}
 use native.Mathlib.Omega.{arith}
 use lib.ListN.{length}
 use Rattle.event.specs.Choice.{pick}
-use Rattle.midicsv.specs.Result.{good, bad}
+use Rattle.midicsv.specs.Result.{good}
 use Rattle.sheet_table.specs.Cut.{cut}
 use Rattle.sheet_table.specs.Table.{dropEmpty, joined, rowLine, isRemark, ofCut, lineBy}
 use Rattle.sheet.specs.Code.Seen.{seen}

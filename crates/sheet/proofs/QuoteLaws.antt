@@ -4,10 +4,10 @@ use Prim.Native.Nat.{ℕ, zero, suc}
 use mathlib.Core.Bool.{Bool, true, false, _||_}
 use mathlib.Core.List.{List, [], _∷_}
 use native.Mathlib.Omega.{arith}
-use lib.Dec.{eqb, leb}
-use borrow.Author.Tests.{eq-eqb, ne-eqb, eqb-true, leb-true}
+use lib.Dec.{eqb}
+use borrow.Author.Tests.{ne-eqb, eqb-true}
 use Rattle.event.specs.Choice.{pick}
-use Rattle.event.specs.Outcome.{Outcome, ok, refused, andThen, check}
+use Rattle.event.specs.Outcome.{Outcome, ok, refused, andThen}
 use Rattle.event.proofs.ChoiceLaws.{pick-true, pick-false, by-test, or-cases, pick-cases}
 use Rattle.event.proofs.OutcomeLaws.{not-ok, ok-same, andThen-ok, check-ok}
 use Rattle.midicsv.specs.Field.{Field, num, minus, name, quoted}

@@ -1,8 +1,8 @@
 -- A row written field by field.
 use mathlib.Core.Path.{_≡_, refl, sym, ap, subst, _∙_}
 use Prim.Native.Nat.{ℕ, zero, suc, _+_, _*_, _<_, _≤_}
-use mathlib.Core.Bool.{Bool, true, false, _&&_, not}
-use mathlib.Core.List.{List, [], _∷_, _++_, append-assoc}
+use mathlib.Core.Bool.{Bool, _&&_, not}
+use mathlib.Core.List.{List, [], _∷_, _++_}
 use native.Mathlib.Omega.{arith}
 use native.Mathlib.Numerals.{add-one}
 use lib.ListN.{length, take, drop, length-take, length-drop, drop-of-length-le}
@@ -12,7 +12,7 @@ use Rattle.event.specs.Choice.{pick}
 use Rattle.event_write.specs.Written.{Written}
 use Rattle.event_write.proofs.WriteLaws.{Remains, all-remains, go-on, done}
 use Rattle.midicsv.specs.Result.{Result, good, bad}
-use Rattle.sheet_table.specs.Cut.{begins, skipBeside, bare, opening, cutFrom, cut}
+use Rattle.sheet_table.specs.Cut.{begins, skipBeside, opening, cutFrom, cut}
 use Rattle.sheet_table.specs.Table.{requote, plainCell, furtherJoined, joined}
 use Rattle.sheet.specs.Code.Seen.{seen}
 use Rattle.sheet.specs.Code.Cell.{consCell, CellAt}

@@ -22,16 +22,16 @@ same-length : tie.Need-same-length
 same-length c = search needs
 
 returns : tie.Need-returns
-returns c = rw (← several-line (c .before .before .before .before .before .before .before .before .before .args .sep) (c .before .before .before .before .before .before .before .before .before .args .line .now) (c .before .before .before .before .before .before .lone-cell .result) (c .before .before .before .before .before .before .lone-cell .ensures .0) (c .before .before .before .before .enum-told .given .1)) (c .before .before .put-part .ensures)
+returns c = rw (← several-line _ _ _ (c .before .before .before .before .before .before .lone-cell .ensures .0) (c .before .before .before .before .enum-told .given .1)) (c .before .before .put-part .ensures)
 
 sub-put-part : tie.Need-sub-put-part
-sub-put-part c = lone-within (c .before .before .before .before .before .before .before .args .line .now) (c .before .before .before .before .lone-cell .result) _ (c .before .before .before .before .lone-cell .ensures .1) (c .before .before .cell .given .1) .0
+sub-put-part c = lone-within _ _ _ (c .before .before .before .before .lone-cell .ensures .1) (c .before .before .cell .given .1) .0
 
 part-put-part-start : tie.Need-part-put-part-start
-part-put-part-start c = lone-within (c .before .before .before .before .before .before .before .args .line .now) (c .before .before .before .before .lone-cell .result) _ (c .before .before .before .before .lone-cell .ensures .1) (c .before .before .cell .given .1) .0
+part-put-part-start c = lone-within _ _ _ (c .before .before .before .before .lone-cell .ensures .1) (c .before .before .cell .given .1) .0
 
 part-put-part-end : tie.Need-part-put-part-end
-part-put-part-end c = lone-within (c .before .before .before .before .before .before .before .args .line .now) (c .before .before .before .before .lone-cell .result) _ (c .before .before .before .before .lone-cell .ensures .1) (c .before .before .cell .given .1) .1
+part-put-part-end c = lone-within _ _ _ (c .before .before .before .before .lone-cell .ensures .1) (c .before .before .cell .given .1) .1
 
 put-part-requires-2 : tie.Need-put-part-requires-2
 put-part-requires-2 c κs = (c .before .before .before .before .before .before .before .before .pre .0, omega (arith, slice-few (c .before .before .before .cell .given .0 .0 .to - c .before .before .before .cell .given .0 .0 .from) (c .before .before .before .cell .given .0 .0 .from) (c .before .before .before .before .before .before .before .before .args .line .now), c .before .before .before .before .before .before .before .before .pre .1))
@@ -40,7 +40,7 @@ same-length-2 : tie.Need-same-length-2
 same-length-2 c = search needs
 
 returns-2 : tie.Need-returns-2
-returns-2 c = rw (← lone-line (c .before .before .before .before .before .before .before .before .before .before .before .args .sep) (c .before .before .before .before .before .before .before .before .before .before .before .args .line .now) (c .before .before .before .before .before .before .before .before .lone-cell .result) (c .before .before .before .before .before .before .before .before .lone-cell .ensures .0) _ (c .before .before .before .before .before .before .cell .given .1)) (c .before .before .put-part2 .ensures)
+returns-2 c = rw (← lone-line _ _ _ (c .before .before .before .before .before .before .before .before .lone-cell .ensures .0) _ (c .before .before .before .before .before .before .cell .given .1)) (c .before .before .put-part2 .ensures)
 
 pub put-line-spec : {M : Type 1} → statement M
 put-line-spec =

@@ -20,7 +20,7 @@ enum-known-start c = search needs
 
 returns : tie.Need-returns
 unfolding placeAs
-returns c = short-here (c .before .before .before .before .before .before .args .twice) (c .before .before .before .before .before .before .args .quoted) (c .before .before .before .before .before .before .args .raw .now) (c .before .before .before .before .field-at .result) (c .before .before .before .before .field-at .ensures .0) _ _ _ (c .before .before .start .given .1) (c .if1 .taken)
+returns c = short-here _ _ _ _ (c .before .before .before .before .field-at .ensures .0) _ _ _ (c .before .before .start .given .1) (c .if1 .taken)
 
 sub-place-of-name : tie.Need-sub-place-of-name
 unfolding Within
@@ -45,22 +45,22 @@ enum-told-4 c = search needs
 
 returns-2 : tie.Need-returns-2
 unfolding placeAs
-returns-2 c = number-here (c .before .before .before .before .args .twice) (c .before .before .before .before .args .quoted) (c .before .before .before .before .args .raw .now) (c .before .before .field-at .result) (c .before .before .field-at .ensures .0) _ _ (c .enum-told .given .1)
+returns-2 c = number-here _ _ _ _ (c .before .before .field-at .ensures .0) _ _ (c .enum-told .given .1)
 
 returns-3 : tie.Need-returns-3
 unfolding placeAs
-returns-3 c = minus-here (c .before .before .before .before .args .twice) (c .before .before .before .before .args .quoted) (c .before .before .before .before .args .raw .now) (c .before .before .field-at .result) (c .before .before .field-at .ensures .0) _ _ (c .enum-told2 .given .1)
+returns-3 c = minus-here _ _ _ _ (c .before .before .field-at .ensures .0) _ _ (c .enum-told2 .given .1)
 
 returns-4 : tie.Need-returns-4
-returns-4 c = c .place-of-name .ensures ∙ name-here (c .before .before .before .before .before .before .before .before .args .twice) (c .before .before .before .before .before .before .before .before .args .quoted) (c .before .before .before .before .before .before .before .before .args .raw .now) (c .before .before .before .before .before .before .field-at .result) (c .before .before .before .before .before .before .field-at .ensures .0) _ _ _ (c .before .before .before .before .start .given .1) (c .before .before .if1 .left)
+returns-4 c = c .place-of-name .ensures ∙ name-here _ _ _ _ (c .before .before .before .before .before .before .field-at .ensures .0) _ _ _ (c .before .before .before .before .start .given .1) (c .before .before .if1 .left)
 
 returns-5 : tie.Need-returns-5
 unfolding placeAs
-returns-5 c = quoted-here (c .before .before .before .before .args .twice) (c .before .before .before .before .args .quoted) (c .before .before .before .before .args .raw .now) (c .before .before .field-at .result) (c .before .before .field-at .ensures .0) _ _ (c .enum-told3 .given .1)
+returns-5 c = quoted-here _ _ _ _ (c .before .before .field-at .ensures .0) _ _ (c .enum-told3 .given .1)
 
 returns-6 : tie.Need-returns-6
 unfolding placeAs
-returns-6 c = bad-here (c .before .before .before .before .args .twice) (c .before .before .before .before .args .quoted) (c .before .before .before .before .args .raw .now) (c .before .before .field-at .result) (c .before .before .field-at .ensures .0) (c .enum-told4 .given .1)
+returns-6 c = bad-here _ _ _ _ (c .before .before .field-at .ensures .0) (c .enum-told4 .given .1)
 
 pub text-place-spec : {M : Type 1} → statement M
 text-place-spec =

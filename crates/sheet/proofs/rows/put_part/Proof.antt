@@ -31,22 +31,22 @@ enum-known-row : tie.Need-enum-known-row
 enum-known-row c = search needs
 
 field-count-requires : tie.Need-field-count-requires
-field-count-requires c κs = cells-counted (c .before .before .before .before .before .before .before .before .args .sep) (c .before .before .before .before .before .before .before .before .args .twice) (c .before .before .before .before .before .before .before .before .args .part .now) (c .before .before .before .look .result) (c .before .before .before .look .ensures) _ (c .before .row .given .1) (c .before .before .before .before .before .before .before .before .pre .1)
+field-count-requires c κs = cells-counted _ _ _ _ (c .before .before .before .look .ensures) _ (c .before .row .given .1) (c .before .before .before .before .before .before .before .before .pre .1)
 
 put-row-requires : tie.Need-put-row-requires
-put-row-requires c κs = (c .before .before .before .before .before .before .before .before .before .before .pre .0, (c .before .before .before .before .before .before .before .before .before .before .pre .1, cells-fielded (c .before .before .before .before .before .before .before .before .before .before .args .sep) (c .before .before .before .before .before .before .before .before .before .before .args .twice) (c .before .before .before .before .before .before .before .before .before .before .args .part .now) (c .before .before .before .before .before .look .result) (c .before .before .before .before .before .look .ensures) _ (c .before .before .before .row .given .1) _ (c .before .field-count .ensures)))
+put-row-requires c κs = (c .before .before .before .before .before .before .before .before .before .before .pre .0, (c .before .before .before .before .before .before .before .before .before .before .pre .1, cells-fielded _ _ _ _ (c .before .before .before .before .before .look .ensures) _ (c .before .before .before .row .given .1) _ (c .before .field-count .ensures)))
 
 same-length-2 : tie.Need-same-length-2
 same-length-2 c = search needs
 
 returns-2 : tie.Need-returns-2
-returns-2 c = rw (← uncut-part (c .before .before .before .before .before .before .before .before .before .before .before .args .sep) (c .before .before .before .before .before .before .before .before .before .before .before .args .twice) (c .before .before .before .before .before .before .before .before .before .before .before .args .part .now) (c .before .before .before .before .before .before .look .result) (c .before .before .before .before .before .before .look .ensures) (sym (c .before .before .before .before .before .before .before .before .is-remark-line .ensures) ∙ c .before .before .before .before .before .before .before .if1 .left) (c .before .before .before .before .enum-told .given .1)) (c .before .before .put-byte .ensures)
+returns-2 c = rw (← uncut-part _ _ _ _ (c .before .before .before .before .before .before .look .ensures) (sym (c .before .before .before .before .before .before .before .before .is-remark-line .ensures) ∙ c .before .before .before .before .before .before .before .if1 .left) (c .before .before .before .before .enum-told .given .1)) (c .before .before .put-byte .ensures)
 
 same-length-3 : tie.Need-same-length-3
 same-length-3 c = search needs
 
 returns-3 : tie.Need-returns-3
-returns-3 c = rw (← cells-part (c .before .before .before .before .before .before .before .before .before .before .before .before .before .args .sep) (c .before .before .before .before .before .before .before .before .before .before .before .before .before .args .twice) (c .before .before .before .before .before .before .before .before .before .before .before .before .before .args .part .now) (c .before .before .before .before .before .before .before .before .look .result) (c .before .before .before .before .before .before .before .before .look .ensures) _ (c .before .before .before .before .before .before .row .given .1) _ (c .before .before .before .before .field-count .ensures) (sym (c .before .before .before .before .before .before .before .before .before .before .is-remark-line .ensures) ∙ c .before .before .before .before .before .before .before .before .before .if1 .left)) (c .before .before .put-row .ensures)
+returns-3 c = rw (← cells-part _ _ _ _ (c .before .before .before .before .before .before .before .before .look .ensures) _ (c .before .before .before .before .before .before .row .given .1) _ (c .before .before .before .before .field-count .ensures) (sym (c .before .before .before .before .before .before .before .before .before .before .is-remark-line .ensures) ∙ c .before .before .before .before .before .before .before .before .before .if1 .left)) (c .before .before .put-row .ensures)
 
 pub put-part-spec : {M : Type 1} → statement M
 put-part-spec =
