@@ -29,17 +29,17 @@ enum-told : tie.Need-enum-told Inv-loop μ-loop
 enum-told c = search needs
 
 returns : tie.Need-returns Inv-loop μ-loop
-returns c = emptied-open (c .before .before .before .loop .inv) (cell-open _ _ _ _ (c .before .before .cell-at .result) (c .before .before .cell-at .ensures) (c .enum-told .given .1))
+returns c = emptied-open (c .before .before .before .loop .inv) (cell-open _ _ _ _ _ (c .before .before .cell-at .ensures) (c .enum-told .given .1))
 
 sub-is-empty-cell : tie.Need-sub-is-empty-cell Inv-loop μ-loop
-sub-is-empty-cell c = cell-found _ _ _ _ (c .before .before .before .cell-at .result) (c .before .before .before .cell-at .ensures) _ (c .before .cell .given .1) .ordered
+sub-is-empty-cell c = cell-found _ _ _ _ _ (c .before .before .before .cell-at .ensures) _ (c .before .cell .given .1) .ordered
 
 part-is-empty-cell-start : tie.Need-part-is-empty-cell-start Inv-loop μ-loop
-part-is-empty-cell-start c = cell-found _ _ _ _ (c .before .before .before .cell-at .result) (c .before .before .before .cell-at .ensures) _ (c .before .cell .given .1) .ordered
+part-is-empty-cell-start c = cell-found _ _ _ _ _ (c .before .before .before .cell-at .ensures) _ (c .before .cell .given .1) .ordered
 
 part-is-empty-cell-end : tie.Need-part-is-empty-cell-end Inv-loop μ-loop
 part-is-empty-cell-end c =
-    let k = cell-found _ _ _ _ (c .before .before .before .cell-at .result) (c .before .before .before .cell-at .ensures) _ (c .before .cell .given .1) in
+    let k = cell-found _ _ _ _ _ (c .before .before .before .cell-at .ensures) _ (c .before .cell .given .1) in
     omega (arith, k .before, k .inside)
 
 is-empty-cell-requires : tie.Need-is-empty-cell-requires Inv-loop μ-loop
@@ -47,12 +47,12 @@ is-empty-cell-requires c κs = search needs
 
 returns-2 : tie.Need-returns-2 Inv-loop μ-loop
 returns-2 c =
-    let k = cell-found _ _ _ _ (c .before .before .before .before .before .before .cell-at .result) (c .before .before .before .before .before .before .cell-at .ensures) _ (c .before .before .before .before .cell .given .1) in
+    let k = cell-found _ _ _ _ _ (c .before .before .before .before .before .before .cell-at .ensures) _ (c .before .before .before .before .cell .given .1) in
     emptied-not (c .before .before .before .before .before .before .before .loop .inv) k (sym (c .before .is-empty-cell .ensures) ∙ not-true (c .before .is-empty-cell .result) (c .if1 .taken))
 
 returns-3 : tie.Need-returns-3 Inv-loop μ-loop
 returns-3 c =
-    let k = cell-found _ _ _ _ (c .before .before .before .before .before .before .before .cell-at .result) (c .before .before .before .before .before .before .before .cell-at .ensures) _ (c .before .before .before .before .before .cell .given .1) in
+    let k = cell-found _ _ _ _ _ (c .before .before .before .before .before .before .before .cell-at .ensures) _ (c .before .before .before .before .before .cell .given .1) in
     emptied-last (c .before .before .before .before .before .before .before .before .loop .inv) k (sym (c .before .before .is-empty-cell .ensures) ∙ not-false (c .before .before .is-empty-cell .result) (c .before .if1 .left)) (c .if2 .taken)
 
 add-at : tie.Need-add-at Inv-loop μ-loop
@@ -60,12 +60,12 @@ add-at c = search needs
 
 loop-less : tie.Need-loop-less Inv-loop μ-loop
 loop-less c =
-    let k = cell-found _ _ _ _ (c .before .before .before .before .before .before .before .cell-at .result) (c .before .before .before .before .before .before .before .cell-at .ensures) _ (c .before .before .before .before .before .cell .given .1) in
+    let k = cell-found _ _ _ _ _ (c .before .before .before .before .before .before .before .cell-at .ensures) _ (c .before .before .before .before .before .cell .given .1) in
     omega (arith, k .after, k .ordered, k .before, c .if2 .left)
 
 loop-again : tie.Need-loop-again Inv-loop μ-loop
 loop-again c =
-    let k = cell-found _ _ _ _ (c .before .before .before .before .before .before .before .cell-at .result) (c .before .before .before .before .before .before .before .cell-at .ensures) _ (c .before .before .before .before .before .cell .given .1) in
+    let k = cell-found _ _ _ _ _ (c .before .before .before .before .before .before .before .cell-at .ensures) _ (c .before .before .before .before .before .cell .given .1) in
     emptied-on (c .before .before .before .before .before .before .before .before .loop .inv) k (sym (c .before .before .is-empty-cell .ensures) ∙ not-false (c .before .before .is-empty-cell .result) (c .before .if1 .left)) (c .if2 .left)
 
 pub are-empty-spec : {M : Type 1} → statement M

@@ -27,12 +27,12 @@ enum-told c = search needs
 
 returns-2 : tie.Need-returns-2
 unfolding LoneWithin seen pick
-returns-2 c = (open-several (c .before .before .before .before .before .before .args .sep) (c .before .before .before .before .before .before .args .line .now) (cell-open _ _ _ _ (c .before .before .cell-at .result) (c .before .before .cell-at .ensures) (c .enum-told .given .1)), tt)
+returns-2 c = (open-several (c .before .before .before .before .before .before .args .sep) (c .before .before .before .before .before .before .args .line .now) (cell-open _ _ _ _ _ (c .before .before .cell-at .ensures) (c .enum-told .given .1)), tt)
 
 returns-3 : tie.Need-returns-3
 unfolding LoneWithin seen pick
 returns-3 c =
-    let k = cell-found _ _ _ _ (c .before .before .before .before .cell-at .result) (c .before .before .before .before .cell-at .ensures) _ (c .before .before .cell .given .1) in
+    let k = cell-found _ _ _ _ _ (c .before .before .before .before .cell-at .ensures) _ (c .before .before .cell .given .1) in
     lone-last (c .before .before .before .before .before .before .before .before .args .sep) (c .before .before .before .before .before .before .before .before .args .line .now) k (sym (c .before .before .before .before .before .before .is-remark-line .ensures) ∙ c .before .before .before .before .before .if1 .left) (c .if2 .taken)
 
 add-are-empty : tie.Need-add-are-empty
@@ -44,13 +44,13 @@ are-empty-requires c κs = search needs
 returns-4 : tie.Need-returns-4
 unfolding LoneWithin seen pick
 returns-4 c =
-    let k = cell-found _ _ _ _ (c .before .before .before .before .before .before .cell-at .result) (c .before .before .before .before .before .before .cell-at .ensures) _ (c .before .before .before .before .cell .given .1) in
+    let k = cell-found _ _ _ _ _ (c .before .before .before .before .before .before .cell-at .ensures) _ (c .before .before .before .before .cell .given .1) in
     lone-among (c .before .before .before .before .before .before .before .before .before .before .args .sep) (c .before .before .before .before .before .before .before .before .before .before .args .line .now) k (sym (c .before .before .before .before .before .before .before .before .is-remark-line .ensures) ∙ c .before .before .before .before .before .before .before .if1 .left) (c .before .before .if2 .left) (sym (c .before .are-empty .ensures) ∙ c .if3 .taken)
 
 returns-5 : tie.Need-returns-5
 unfolding LoneWithin seen pick
 returns-5 c =
-    let k = cell-found _ _ _ _ (c .before .before .before .before .before .before .cell-at .result) (c .before .before .before .before .before .before .cell-at .ensures) _ (c .before .before .before .before .cell .given .1) in
+    let k = cell-found _ _ _ _ _ (c .before .before .before .before .before .before .cell-at .ensures) _ (c .before .before .before .before .cell .given .1) in
     (cells-several (c .before .before .before .before .before .before .before .before .before .before .args .sep) (c .before .before .before .before .before .before .before .before .before .before .args .line .now) k (c .before .before .if2 .left) (sym (c .before .are-empty .ensures) ∙ c .if3 .left), tt)
 
 pub lone-cell-spec : {M : Type 1} → statement M

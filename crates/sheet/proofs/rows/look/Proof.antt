@@ -25,17 +25,17 @@ enum-told : tie.Need-enum-told Inv-loop μ-loop
 enum-told c = search needs
 
 returns : tie.Need-returns Inv-loop μ-loop
-returns c = looking-open (c .before .before .before .loop .inv) (cell-open _ _ _ _ (c .before .before .cell-at .result) (c .before .before .cell-at .ensures) (c .enum-told .given .1))
+returns c = looking-open (c .before .before .before .loop .inv) (cell-open _ _ _ _ _ (c .before .before .cell-at .ensures) (c .enum-told .given .1))
 
 sub-with-cell : tie.Need-sub-with-cell Inv-loop μ-loop
-sub-with-cell c = cell-found _ _ _ _ (c .before .before .before .cell-at .result) (c .before .before .before .cell-at .ensures) _ (c .before .cell .given .1) .ordered
+sub-with-cell c = cell-found _ _ _ _ _ (c .before .before .before .cell-at .ensures) _ (c .before .cell .given .1) .ordered
 
 part-with-cell-start : tie.Need-part-with-cell-start Inv-loop μ-loop
-part-with-cell-start c = cell-found _ _ _ _ (c .before .before .before .cell-at .result) (c .before .before .before .cell-at .ensures) _ (c .before .cell .given .1) .ordered
+part-with-cell-start c = cell-found _ _ _ _ _ (c .before .before .before .cell-at .ensures) _ (c .before .cell .given .1) .ordered
 
 part-with-cell-end : tie.Need-part-with-cell-end Inv-loop μ-loop
 part-with-cell-end c =
-    let k = cell-found _ _ _ _ (c .before .before .before .cell-at .result) (c .before .before .before .cell-at .ensures) _ (c .before .cell .given .1) in
+    let k = cell-found _ _ _ _ _ (c .before .before .before .cell-at .ensures) _ (c .before .cell .given .1) in
     omega (arith, k .before, k .inside)
 
 with-cell-requires : tie.Need-with-cell-requires Inv-loop μ-loop
@@ -43,7 +43,7 @@ with-cell-requires c κs = omega (arith, c .before .before .before .before .befo
 
 returns-2 : tie.Need-returns-2 Inv-loop μ-loop
 returns-2 c =
-    let k = cell-found _ _ _ _ (c .before .before .before .before .before .before .cell-at .result) (c .before .before .before .before .before .before .cell-at .ensures) _ (c .before .before .before .before .cell .given .1) in
+    let k = cell-found _ _ _ _ _ (c .before .before .before .before .before .before .cell-at .ensures) _ (c .before .before .before .before .cell .given .1) in
     looking-last (c .before .before .before .before .before .before .before .loop .inv) (c .before .with-cell .result) k (c .before .with-cell .ensures) (c .if1 .taken)
 
 after-byte-requires : tie.Need-after-byte-requires Inv-loop μ-loop
@@ -51,12 +51,12 @@ after-byte-requires c κs = c .if1 .left
 
 loop-less : tie.Need-loop-less Inv-loop μ-loop
 loop-less c =
-    let k = cell-found _ _ _ _ (c .before .before .before .before .before .before .before .cell-at .result) (c .before .before .before .before .before .before .before .cell-at .ensures) _ (c .before .before .before .before .before .cell .given .1) in
+    let k = cell-found _ _ _ _ _ (c .before .before .before .before .before .before .before .cell-at .ensures) _ (c .before .before .before .before .before .cell .given .1) in
     omega (arith, k .after, k .ordered, k .before, c .after-byte .ensures .later, c .after-byte .ensures .inside)
 
 loop-again : tie.Need-loop-again Inv-loop μ-loop
 loop-again c =
-    let k = cell-found _ _ _ _ (c .before .before .before .before .before .before .before .cell-at .result) (c .before .before .before .before .before .before .before .cell-at .ensures) _ (c .before .before .before .before .before .cell .given .1) in
+    let k = cell-found _ _ _ _ _ (c .before .before .before .before .before .before .before .cell-at .ensures) _ (c .before .before .before .before .before .cell .given .1) in
     looking-on (c .before .before .before .before .before .before .before .before .loop .inv) (c .before .before .with-cell .result) k (c .before .before .with-cell .ensures) (c .after-byte .ensures)
 
 pub look-spec : {M : Type 1} → statement M

@@ -33,31 +33,31 @@ same-length : tie.Need-same-length Inv-loop μ-loop
 same-length c = c .before .before .before .before .before .put-comma .kept .0 ∙ c .before .before .before .before .before .before .before .before .loop .inv .0
 
 returns : tie.Need-returns Inv-loop μ-loop
-returns c = row-open (c .before .before .before .before .before .before .before .before .loop .inv .1) (cell-open _ _ _ _ (c .before .before .cell-at .result) (c .before .before .cell-at .ensures) (c .enum-told .given .1))
+returns c = row-open (c .before .before .before .before .before .before .before .before .loop .inv .1) (cell-open _ _ _ _ _ (c .before .before .cell-at .ensures) (c .enum-told .given .1))
 
 is-text-requires : tie.Need-is-text-requires Inv-loop μ-loop
 is-text-requires c κs = search needs
 
 sub-put-cell : tie.Need-sub-put-cell Inv-loop μ-loop
-sub-put-cell c = cell-found _ _ _ _ (c .before .before .before .before .before .cell-at .result) (c .before .before .before .before .before .cell-at .ensures) _ (c .before .before .before .cell .given .1) .ordered
+sub-put-cell c = cell-found _ _ _ _ _ (c .before .before .before .before .before .cell-at .ensures) _ (c .before .before .before .cell .given .1) .ordered
 
 part-put-cell-start : tie.Need-part-put-cell-start Inv-loop μ-loop
-part-put-cell-start c = cell-found _ _ _ _ (c .before .before .before .before .before .cell-at .result) (c .before .before .before .before .before .cell-at .ensures) _ (c .before .before .before .cell .given .1) .ordered
+part-put-cell-start c = cell-found _ _ _ _ _ (c .before .before .before .before .before .cell-at .ensures) _ (c .before .before .before .cell .given .1) .ordered
 
 part-put-cell-end : tie.Need-part-put-cell-end Inv-loop μ-loop
 part-put-cell-end c =
-    let k = cell-found _ _ _ _ (c .before .before .before .before .before .cell-at .result) (c .before .before .before .before .before .cell-at .ensures) _ (c .before .before .before .cell .given .1) in
+    let k = cell-found _ _ _ _ _ (c .before .before .before .before .before .cell-at .ensures) _ (c .before .before .before .cell .given .1) in
     omega (arith, k .before, k .inside)
 
 put-cell-requires : tie.Need-put-cell-requires Inv-loop μ-loop
 put-cell-requires c κs =
-    let k = cell-found _ _ _ _ (c .before .before .before .before .before .before .cell-at .result) (c .before .before .before .before .before .before .cell-at .ensures) _ (c .before .before .before .before .cell .given .1) in (
+    let k = cell-found _ _ _ _ _ (c .before .before .before .before .before .before .cell-at .ensures) _ (c .before .before .before .before .cell .given .1) in (
       omega (arith, row-place (c .before .before .before .before .before .before .before .before .before .before .before .before .loop .inv .1) (c .before .before .before .before .before .before .before .before .before .before .before .before .before .before .before .pre .1 .1), c .before .before .before .before .before .before .before .before .before .before .before .before .before .before .before .pre .0, c .before .before .before .before .before .before .before .before .before .before .before .before .before .before .before .pre .1 .0, c .before .before .before .before .before .before .before .before .before .put-comma .ensures .place, comma-few (c .before .before .before .before .before .before .before .before .before .before .before .before .loop .i)),
       (omega (arith, slice-few (c .before .before .before .before .cell .given .0 .0 .to - c .before .before .before .before .cell .given .0 .0 .from) (c .before .before .before .before .cell .given .0 .0 .from) (c .before .before .before .before .before .before .before .before .before .before .before .before .before .before .before .args .part .now), c .before .before .before .before .before .before .before .before .before .before .before .before .before .before .before .pre .1 .0), k .paired),
     )
 
 after-cell-requires : tie.Need-after-cell-requires Inv-loop μ-loop
-after-cell-requires c κs = cell-found _ _ _ _ (c .before .before .before .before .before .before .before .before .before .cell-at .result) (c .before .before .before .before .before .before .before .before .before .cell-at .ensures) _ (c .before .before .before .before .before .before .before .cell .given .1) .inside
+after-cell-requires c κs = cell-found _ _ _ _ _ (c .before .before .before .before .before .before .before .before .before .cell-at .ensures) _ (c .before .before .before .before .before .before .before .cell .given .1) .inside
 
 add-i : tie.Need-add-i Inv-loop μ-loop
 add-i c = search needs
@@ -67,7 +67,7 @@ loop-less c = search needs
 
 loop-again : tie.Need-loop-again Inv-loop μ-loop
 loop-again c =
-    let k = cell-found _ _ _ _ (c .before .before .before .before .before .before .before .before .before .before .cell-at .result) (c .before .before .before .before .before .before .before .before .before .before .cell-at .ensures) _ (c .before .before .before .before .before .before .before .before .cell .given .1) in (
+    let k = cell-found _ _ _ _ _ (c .before .before .before .before .before .before .before .before .before .before .cell-at .ensures) _ (c .before .before .before .before .before .before .before .before .cell .given .1) in (
       c .before .before .before .put-cell .kept .0 ∙ c .before .before .before .before .before .before .before .before .before .before .before .before .before .put-comma .kept .0 ∙ c .before .before .before .before .before .before .before .before .before .before .before .before .before .before .before .before .loop .inv .0,
       row-on (c .before .before .before .before .before .before .before .before .before .before .before .before .before .before .before .before .loop .inv .1) k (c .before .before .before .before .before .before .before .before .before .before .before .before .before .before .before .loop-test .taken) (c .before .before .before .before .before .before .before .before .before .before .before .before .before .put-comma .ensures) (as-field (c .before .before .before .before .before .before .is-text .result) (c .before .before .before .before .before .before .before .before .before .before .before .before .before .before .before .before .before .before .before .args .place) (c .before .before .before .before .before .before .before .before .before .before .before .before .before .before .before .before .loop .i) _ (c .before .before .before .before .before .before .is-text .ensures) (c .before .before .before .put-cell .ensures)) (c .after-cell .ensures .0) (c .after-cell .ensures .1),
     )
