@@ -1,9 +1,9 @@
-pub mod FieldsInLaws
-pub mod PlaceLaws
-pub mod QuoteLaws
-pub mod WalkLaws
-pub mod LoneLaws
-pub mod RowBoundLaws
-pub mod RowLaws
-pub mod NameCellLaws
-pub mod PartLaws
+mod FieldsInLaws
+mod PlaceLaws
+mod QuoteLaws
+mod WalkLaws
+mod LoneLaws
+mod RowBoundLaws
+mod RowLaws
+mod NameCellLaws
+mod PartLaws
