@@ -1,3 +1,4 @@
 pub mod Seen
 pub mod Cell
 pub mod Row
+pub mod Walk

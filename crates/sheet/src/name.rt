@@ -1,5 +1,6 @@
 // Which cell of a row is its text, by the name in the third cell.
 ghost use mathlib.Core.Path.{_≡_};
+ghost use Rattle.midicsv.specs.Names.{allNames, find};
 ghost use Rattle.midicsv.specs.ReadField.{readField};
 ghost use Rattle.sheet_table.specs.Table.{nameIn, textOfName};
 ghost use Rattle.sheet.specs.Code.Seen.{seen};
@@ -10,10 +11,9 @@ use midicsv_scan::FieldStep;
 use midicsv_scan::field::field_at;
 
 // How many cells stand before the text of a record of this name; 0 where it has none.
-fn place_of_name(name: &[u8]) -> usize {
-    if same_name(name, b"Lyric_t") {
-        return 3;
-    }
+fn place_of_name(name: &[u8]) -> usize
+    ensures { λ r. ⌜ placeAs r ≡ textOfName (find (now (name .entry)) allNames) ⌝ }
+{
     if same_name(name, b"Text_t") {
         return 3;
     }
@@ -24,6 +24,9 @@ fn place_of_name(name: &[u8]) -> usize {
         return 3;
     }
     if same_name(name, b"Instrument_name_t") {
+        return 3;
+    }
+    if same_name(name, b"Lyric_t") {
         return 3;
     }
     if same_name(name, b"Marker_t") {

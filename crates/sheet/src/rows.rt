@@ -1,13 +1,18 @@
 // A row of cells as a line of a text.
 ghost use mathlib.Core.Path.{_≡_};
-ghost use mathlib.Core.List.{List};
-ghost use Prim.Native.Nat.{ℕ, _<_, _≤_, _^_};
+ghost use mathlib.Core.Bool.{_&&_, not};
+ghost use Prim.Native.Nat.{_<_, _≤_, _^_};
+ghost use lib.Dec.{eqb};
 ghost use lib.ListN.{length};
+ghost use Rattle.event.specs.Choice.{pick};
 ghost use Rattle.event_write.specs.Written.{Written};
-ghost use Rattle.sheet_table.specs.Table.{lineBy, rowLine};
+ghost use Rattle.midicsv.specs.ReadField.{readField};
+ghost use Rattle.sheet_table.specs.Cut.{cut};
+ghost use Rattle.sheet_table.specs.Table.{isEmpty, nameIn, textOfName, lineBy, rowLine};
 ghost use Rattle.sheet.specs.Code.Seen.{seen};
-ghost use Rattle.sheet.specs.Code.Row.{RowIs, fieldCount};
-use super::Cell;
+ghost use Rattle.sheet.specs.Code.Cell.{contentOf};
+ghost use Rattle.sheet.specs.Code.Row.{placeAs, RowIs, fieldCount};
+ghost use Rattle.sheet.specs.Code.Walk.{Grown, Stepped, comma, fieldsOf, Fielded};
 use super::CellStep;
 use super::Row;
 use super::RowStep;
@@ -15,24 +20,39 @@ use super::cutting::cell_at;
 use super::field::put_cell;
 use super::field::put_seen;
 use super::name::text_place;
+use super::part::after_byte;
 use super::part::is_empty_cell;
 use super::part::is_remark_line;
 use event_write::bytes::put_byte;
 
-// What is known of a row after its cell numbered row.cells.
-fn with_cell(row: Row, part: &[u8], cell: Cell, twice: bool) -> Row {
-    let from = cell.from;
-    let to = cell.to;
-    let quoted = cell.quoted;
-    let cells = row.cells + 1;
-    let mut kept = row.kept;
-    if !is_empty_cell(&part[from..to], twice, quoted) {
-        kept = cells;
+// How many cells stand up to the last that is not empty, after the cell numbered cells - 1.
+fn kept_after(kept: usize, cells: usize, raw: &[u8], twice: bool, quoted: bool) -> usize
+    ensures { λ r. ⌜ r ≡ pick (isEmpty (contentOf quoted (seen twice (now (raw .entry))))) kept cells ⌝ }
+{
+    if is_empty_cell(raw, twice, quoted) {
+        return kept;
     }
-    let mut place = row.place;
+    cells
+}
+
+// How many cells stand before the text, after the cell numbered cells - 1: the third tells.
+fn place_after(place: usize, cells: usize, raw: &[u8], twice: bool, quoted: bool) -> usize
+    ensures { λ r. ⌜ placeAs r ≡ pick (eqb cells 3) (textOfName (nameIn (readField (contentOf quoted (seen twice (now (raw .entry))))))) (placeAs place) ⌝ }
+{
     if cells == 3 {
-        place = text_place(&part[from..to], twice, quoted);
+        return text_place(raw, twice, quoted);
     }
+    place
+}
+
+// What is known of a row after its cell numbered row.cells.
+fn with_cell(row: Row, raw: &[u8], twice: bool, quoted: bool) -> Row
+    requires { ⌜ row .cells < 2 ^ 63 ⌝ }
+    ensures { λ r. ⌜ Grown row (contentOf quoted (seen twice (now (raw .entry)))) r ⌝ }
+{
+    let cells = row.cells + 1;
+    let kept = kept_after(row.kept, cells, raw, twice, quoted);
+    let place = place_after(row.place, cells, raw, twice, quoted);
     Row { cells, kept, place }
 }
 
@@ -47,22 +67,24 @@ pub fn look(part: &[u8], sep: u8, twice: bool) -> RowStep
     };
     let mut at = 0;
     loop {
-        match cell_at(part, at, sep, twice) {
-            CellStep::Open => return RowStep::Uncut,
-            CellStep::Found(cell) => {
-                row = with_cell(row, part, cell, twice);
-                let next = cell.next;
-                if part.len() <= next {
-                    return RowStep::Cells(row);
-                }
-                at = next + 1;
-            }
+        let CellStep::Found(cell) = cell_at(part, at, sep, twice) else {
+            return RowStep::Uncut;
+        };
+        let from = cell.from;
+        let to = cell.to;
+        let next = cell.next;
+        let quoted = cell.quoted;
+        row = with_cell(row, &part[from..to], twice, quoted);
+        if part.len() <= next {
+            return RowStep::Cells(row);
         }
+        at = after_byte(part, next, twice);
     }
 }
 
 // How many fields the row's line has.
 fn field_count(row: Row) -> usize
+    requires { ⌜ row .cells < 2 ^ 32 ⌝ }
     ensures { λ r. ⌜ r ≡ fieldCount (row .place) (row .cells) (row .kept) ⌝ }
 {
     let place = row.place;
@@ -80,6 +102,38 @@ fn field_count(row: Row) -> usize
     kept
 }
 
+// A comma before a field that is not the first.
+fn put_comma(out: &mut [u8], at: usize, i: usize) -> usize
+    requires { ⌜ at < 2 ^ 39 ⌝ }
+    ensures { λ r. ⌜ Written (now (out .entry)) at (comma i) (now (out .exit)) r ⌝ }
+{
+    if i == 0 {
+        return at;
+    }
+    put_byte(out, at, 44)
+}
+
+// Whether the cell numbered i is the text.
+fn is_text(place: usize, i: usize) -> bool
+    ensures { λ r. ⌜ r ≡ (eqb i place && not (eqb place 0)) ⌝ }
+{
+    if place == 0 {
+        return false;
+    }
+    i == place
+}
+
+// The place after a cell that ends at a place.
+fn after_cell(part: &[u8], end: usize, twice: bool) -> usize
+    requires { ⌜ end ≤ length (now part) ⌝ }
+    ensures { λ r. ⌜ Stepped twice (now (part .entry)) end r ⌝ ∗ ⌜ r ≤ length (now (part .entry)) ⌝ }
+{
+    if part.len() <= end {
+        return end;
+    }
+    after_byte(part, end, twice)
+}
+
 // So many fields of a row that can be cut.
 fn put_row(
     out: &mut [u8],
@@ -89,35 +143,25 @@ fn put_row(
     twice: bool,
     count: usize,
     place: usize,
-) -> usize {
+) -> usize
+    requires { ⌜ at < 2 ^ 38 ⌝ ∗ ⌜ length (now part) ≤ 268435456 ⌝ ∗ ⌜ Fielded count (cut sep (seen twice (now part))) ⌝ }
+    ensures { λ r. ⌜ Written (now (out .entry)) at (fieldsOf count place (cut sep (seen twice (now (part .entry))))) (now (out .exit)) r ⌝ }
+{
     let mut next = at;
     let mut p = 0;
     let mut i = 0;
     while i < count {
-        if 0 < i {
-            next = put_byte(out, next, 44);
-        }
-        match cell_at(part, p, sep, twice) {
-            CellStep::Open => return next,
-            CellStep::Found(cell) => {
-                let from = cell.from;
-                let to = cell.to;
-                let quoted = cell.quoted;
-                next = put_cell(
-                    out,
-                    next,
-                    &part[from..to],
-                    twice,
-                    quoted,
-                    place != 0 && i == place,
-                );
-                let end = cell.next;
-                p = end;
-                if end < part.len() {
-                    p = end + 1;
-                }
-            }
-        }
+        let start = put_comma(out, next, i);
+        let CellStep::Found(cell) = cell_at(part, p, sep, twice) else {
+            return start;
+        };
+        let from = cell.from;
+        let to = cell.to;
+        let end = cell.next;
+        let quoted = cell.quoted;
+        let text = is_text(place, i);
+        next = put_cell(out, start, &part[from..to], twice, quoted, text);
+        p = after_cell(part, end, twice);
         i = i + 1;
     }
     next
