@@ -2,6 +2,8 @@ pub mod FieldLaws
 pub mod SpellLaws
 pub mod NameLaws
 pub mod WordLaws
+pub mod TruthLaws
+pub mod SpellWriteLaws
 pub mod Example
 pub mod RowLaws
 pub mod LineBoundLaws

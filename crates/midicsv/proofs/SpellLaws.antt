@@ -139,12 +139,12 @@ spell-printable d = by-test (leb (length d) 8191) (λ t. rw t (short-printable d
 
 -- ---- at most four bytes for each
 
-byte-size : (b : Bool) (c : ℕ) → length (orOctal b c) ≤ 4
+pub byte-size : (b : Bool) (c : ℕ) → length (orOctal b c) ≤ 4
 unfolding orOctal octal pick
 byte-size true c = omega arith
 byte-size false c = omega arith
 
-rest-size : (free : Bool) (before : ℕ) (d : List ℕ) → length (spellRest free before d) ≤ 4 * length d
+pub rest-size : (free : Bool) (before : ℕ) (d : List ℕ) → length (spellRest free before d) ≤ 4 * length d
 unfolding spellRest
 rest-size free before [] = omega arith
 rest-size free before (c ∷ []) = omega (arith, byte-size (free && standsLast before c) c)
@@ -155,7 +155,7 @@ unfolding spellShort
 short-size [] = omega arith
 short-size (c ∷ l) = let q = rest-size (not (isTruth (c ∷ l))) c l in simp length-append (omega (arith, byte-size (isLetter c) c))
 
-octals-size : (d : List ℕ) → length (octalAll d) ≤ 4 * length d
+pub octals-size : (d : List ℕ) → length (octalAll d) ≤ 4 * length d
 unfolding octalAll octal
 octals-size [] = omega arith
 octals-size (c ∷ l) = let q = octals-size l in omega arith

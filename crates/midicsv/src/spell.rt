@@ -1,6 +1,6 @@
 // A text spelled for a cell of a sheet (docs/SPREADSHEET.md). Each writer writes only where there is room and answers the place after.
 ghost use mathlib.Core.Path.{_≡_};
-ghost use mathlib.Core.List.{[], _∷_};
+ghost use mathlib.Core.Bool.{_&&_};
 ghost use Prim.Native.Nat.{_<_, _≤_, _^_};
 ghost use lib.ListN.{length, getD, drop};
 ghost use Rattle.event_write.specs.Written.{Written};
@@ -17,14 +17,22 @@ const LONGEST: usize = 8191;
 fn is_mark(c: u8) -> bool
     ensures { λ r. ⌜ r ≡ isMark c ⌝ }
 {
-    match c {
-        33 => true,
-        39..=43 => true,
-        45..=46 => true,
-        58 => true,
-        63 => true,
-        _ => false,
+    if c < 39 {
+        return c == 33;
     }
+    if c <= 43 {
+        return true;
+    }
+    if c < 45 {
+        return false;
+    }
+    if c <= 46 {
+        return true;
+    }
+    if c == 58 {
+        return true;
+    }
+    c == 63
 }
 
 // A letter or a mark.
@@ -85,23 +93,36 @@ fn put_or_octal(out: &mut [u8], at: usize, c: u8, stands: bool) -> usize
     put_octal(out, at, c)
 }
 
-// The bytes after the first; the last of them stands only in a text that is no word.
+// The last byte, after the byte before it: it stands only in a text that is no word.
+fn put_last(out: &mut [u8], at: usize, before: u8, c: u8, free: bool) -> usize
+    requires { ⌜ at < 2 ^ 47 ⌝ }
+    ensures { λ r. ⌜ Written (now (out .entry)) at (orOctal (free && standsLast before c) c) (now (out .exit)) r ⌝ }
+{
+    if free {
+        return put_or_octal(out, at, c, stands_last(before, c));
+    }
+    put_octal(out, at, c)
+}
+
+// The bytes after the first.
 fn put_rest(out: &mut [u8], at: usize, text: &[u8], free: bool) -> usize
     requires { ⌜ at < 2 ^ 44 ⌝ ∗ ⌜ 1 ≤ length (now text) ⌝ ∗ ⌜ length (now text) < 2 ^ 42 ⌝ }
     ensures { λ r. ⌜ Written (now (out .entry)) at (spellRest free (getD (now (text .entry)) 0 0) (drop 1 (now (text .entry)))) (now (out .exit)) r ⌝ }
 {
+    let last = text.len() - 1;
     let mut next = at;
+    let mut before = text[0];
     let mut i = 1;
-    while i < text.len() {
+    while i < last {
         let c = text[i];
-        let mut stands = stands_inside(c);
-        if text.len() <= i + 1 {
-            stands = free && stands_last(text[i - 1], c);
-        }
-        next = put_or_octal(out, next, c, stands);
+        next = put_or_octal(out, next, c, stands_inside(c));
+        before = c;
         i = i + 1;
     }
-    next
+    if last < i {
+        return next;
+    }
+    put_last(out, next, before, text[i], free)
 }
 
 // A text that is not too long.

@@ -3,7 +3,7 @@ ghost use mathlib.Core.Path.{_≡_};
 ghost use Prim.Native.Nat.{_≤_};
 ghost use lib.ListN.{length};
 ghost use Rattle.midicsv.specs.TruthWords.{truthWords};
-ghost use Rattle.midicsv.specs.Spell.{unblanked, listed, isTruth};
+ghost use Rattle.midicsv.specs.Spell.{listed, isTruth};
 ghost use Rattle.midicsv.specs.Code.Words.{wordsIn};
 use super::word::same_name;
 
@@ -15,10 +15,11 @@ fn among(word: &[u8], words: &[u8]) -> bool
     let n = word.len();
     let mut at = 0;
     while n <= words.len() - at {
-        if same_name(word, &words[at..at + n]) {
+        let next = at + n;
+        if same_name(word, &words[at..next]) {
             return true;
         }
-        at = at + n;
+        at = next;
     }
     false
 }
@@ -62,12 +63,12 @@ fn is_listed(word: &[u8]) -> bool
 pub fn is_truth(text: &[u8]) -> bool
     ensures { λ r. ⌜ r ≡ isTruth (now (text .entry)) ⌝ }
 {
-    let n = text.len();
-    if n == 0 {
+    if text.len() == 0 {
         return is_listed(text);
     }
-    if text[n - 1] == 32 {
-        return is_listed(&text[0..n - 1]);
+    let last = text.len() - 1;
+    if text[last] == 32 {
+        return is_listed(&text[..last]);
     }
     is_listed(text)
 }
