@@ -106,7 +106,7 @@ fn put_last(out: &mut [u8], at: usize, before: u8, c: u8, free: bool) -> usize
 
 // The bytes after the first.
 fn put_rest(out: &mut [u8], at: usize, text: &[u8], free: bool) -> usize
-    requires { ⌜ at < 2 ^ 44 ⌝ ∗ ⌜ 1 ≤ length (now text) ⌝ ∗ ⌜ length (now text) < 2 ^ 42 ⌝ }
+    requires { ⌜ at < 2 ^ 45 ⌝ ∗ ⌜ 1 ≤ length (now text) ⌝ ∗ ⌜ length (now text) < 2 ^ 42 ⌝ }
     ensures { λ r. ⌜ Written (now (out .entry)) at (spellRest free (getD (now (text .entry)) 0 0) (drop 1 (now (text .entry)))) (now (out .exit)) r ⌝ }
 {
     let last = text.len() - 1;
@@ -127,7 +127,7 @@ fn put_rest(out: &mut [u8], at: usize, text: &[u8], free: bool) -> usize
 
 // A text that is not too long.
 fn put_short(out: &mut [u8], at: usize, text: &[u8]) -> usize
-    requires { ⌜ at < 2 ^ 43 ⌝ ∗ ⌜ length (now text) < 2 ^ 42 ⌝ }
+    requires { ⌜ at < 2 ^ 44 ⌝ ∗ ⌜ length (now text) < 2 ^ 42 ⌝ }
     ensures { λ r. ⌜ Written (now (out .entry)) at (spellShort (now (text .entry))) (now (out .exit)) r ⌝ }
 {
     if text.len() == 0 {
@@ -140,7 +140,7 @@ fn put_short(out: &mut [u8], at: usize, text: &[u8]) -> usize
 
 // Every byte in octal.
 fn put_octals(out: &mut [u8], at: usize, text: &[u8]) -> usize
-    requires { ⌜ at < 2 ^ 43 ⌝ ∗ ⌜ length (now text) < 2 ^ 42 ⌝ }
+    requires { ⌜ at < 2 ^ 44 ⌝ ∗ ⌜ length (now text) < 2 ^ 42 ⌝ }
     ensures { λ r. ⌜ Written (now (out .entry)) at (octalAll (now (text .entry))) (now (out .exit)) r ⌝ }
 {
     let mut next = at;
@@ -154,7 +154,7 @@ fn put_octals(out: &mut [u8], at: usize, text: &[u8]) -> usize
 
 // A text between its quotes.
 fn put_spelled(out: &mut [u8], at: usize, text: &[u8]) -> usize
-    requires { ⌜ at < 2 ^ 43 ⌝ ∗ ⌜ length (now text) < 2 ^ 42 ⌝ }
+    requires { ⌜ at < 2 ^ 44 ⌝ ∗ ⌜ length (now text) < 2 ^ 42 ⌝ }
     ensures { λ r. ⌜ Written (now (out .entry)) at (spellText (now (text .entry))) (now (out .exit)) r ⌝ }
 {
     if LONGEST < text.len() {
@@ -165,7 +165,7 @@ fn put_spelled(out: &mut [u8], at: usize, text: &[u8]) -> usize
 
 // A text in its quotes, as a sheet has it.
 pub fn put_cell_text(out: &mut [u8], at: usize, text: &[u8]) -> usize
-    requires { ⌜ at < 2 ^ 42 ⌝ ∗ ⌜ length (now text) < 2 ^ 42 ⌝ }
+    requires { ⌜ at < 2 ^ 43 ⌝ ∗ ⌜ length (now text) < 2 ^ 42 ⌝ }
     ensures { λ r. ⌜ Written (now (out .entry)) at (quote asSheet (now (text .entry))) (now (out .exit)) r ⌝ }
 {
     let a = put_byte(out, at, 34);
