@@ -9,6 +9,7 @@ pub mod RowLaws
 pub mod LineBoundLaws
 pub mod BoundLaws
 pub mod TextReadings
+pub mod SpellReadings
 pub mod ResultLaws
 pub mod AllLaws
 pub mod DecimalReadLaws
