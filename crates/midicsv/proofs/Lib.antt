@@ -3,6 +3,8 @@ pub mod SpellLaws
 pub mod NameLaws
 pub mod WordLaws
 pub mod TruthLaws
+pub mod NoWordLaws
+pub mod SafeLaws
 pub mod SpellWriteLaws
 pub mod Example
 pub mod RowLaws

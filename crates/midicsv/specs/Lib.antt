@@ -17,4 +17,5 @@ pub mod Order
 pub mod PieceOfText
 pub mod TextReadings
 pub mod SpellReadings
+pub mod Safe
 pub mod Code
