@@ -3,12 +3,15 @@ pub mod SpellLaws
 pub mod NameLaws
 pub mod WordLaws
 pub mod TruthLaws
+pub mod NoWordLaws
+pub mod SafeLaws
 pub mod SpellWriteLaws
 pub mod Example
 pub mod RowLaws
 pub mod LineBoundLaws
 pub mod BoundLaws
 pub mod TextReadings
+pub mod SpellReadings
 pub mod ResultLaws
 pub mod AllLaws
 pub mod DecimalReadLaws

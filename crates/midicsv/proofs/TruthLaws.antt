@@ -12,7 +12,7 @@ use Rattle.event.specs.Choice.{pick}
 use Rattle.event.proofs.ChoiceLaws.{by-test, pick-true, pick-false, and-both}
 use Rattle.midicsv.specs.Names.{sameName}
 use Rattle.midicsv.specs.TruthWords.{truthWords}
-use Rattle.midicsv.specs.Spell.{unblanked, listed}
+use Rattle.midicsv.specs.Spell.{unblanked, listed, isTruth}
 use Rattle.midicsv.specs.Code.Words.{wordsFor, wordsIn}
 use Rattle.midicsv.proofs.WordLaws.{lengths-apart}
 
@@ -145,3 +145,14 @@ pub empty-unblanked : (d : List ℕ) → length d ≡ 0 → d ≡ unblanked d
 unfolding unblanked
 empty-unblanked [] h = refl
 empty-unblanked (c ∷ d) h = absurd (omega arith)
+
+shorter-unblanked : (d : List ℕ) → length (unblanked d) ≤ length d
+unfolding unblanked pick
+shorter-unblanked [] = omega arith
+shorter-unblanked (c ∷ []) = by-test (eqb c 32) (λ t. rw t (omega arith)) (λ t. rw t (omega arith))
+shorter-unblanked (c ∷ x ∷ l) = let h = shorter-unblanked (x ∷ l) in omega arith
+
+-- a text of one byte is no word
+pub few-bytes : (d : List ℕ) → length d ≤ 1 → isTruth d ≡ false
+unfolding isTruth truthWords
+few-bytes d h = none-fair (unblanked d) truthWords (λ two. let s = shorter-unblanked d in absurd (omega arith)) refl

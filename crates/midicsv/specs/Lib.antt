@@ -16,4 +16,6 @@ pub mod Lines
 pub mod Order
 pub mod PieceOfText
 pub mod TextReadings
+pub mod SpellReadings
+pub mod Safe
 pub mod Code
