@@ -1,1 +1,11 @@
+pub mod AnyKeptLaws
+pub mod BareFieldLaws
+pub mod CutLaws
+pub mod FieldCellLaws
+pub mod NameSizeLaws
+pub mod QuotedFieldLaws
+pub mod RecordKeptLaws
+pub mod RowKeptLaws
+pub mod TableBoundLaws
+pub mod TableLinesLaws
 pub mod TableReadings
