@@ -2,3 +2,4 @@ pub mod Cut
 pub mod Table
 pub mod TableAnswer
 pub mod TableReadings
+pub mod Ways
