@@ -6,6 +6,7 @@ pub mod NameSizeLaws
 pub mod QuotedFieldLaws
 pub mod RecordKeptLaws
 pub mod RowKeptLaws
+pub mod SpelledCellLaws
 pub mod TableBoundLaws
 pub mod TableLinesLaws
 pub mod TableReadings
