@@ -6,7 +6,10 @@ pub mod NameSizeLaws
 pub mod QuotedFieldLaws
 pub mod RecordKeptLaws
 pub mod RowKeptLaws
+pub mod SavedBytesLaws
+pub mod SavedRowLaws
 pub mod SpelledCellLaws
 pub mod TableBoundLaws
+pub mod TableEndsLaws
 pub mod TableLinesLaws
 pub mod TableReadings

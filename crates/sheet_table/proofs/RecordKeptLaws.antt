@@ -253,11 +253,11 @@ module _ (x y z : List ℕ) (a b c : Field) (ta : isText a ≡ false) (tb : isTe
 
 -- ---- the name is found again, and the row is no single cell
 
-name-again : (z : List ℕ) (c : Field) (n : RecordName) → nameFrom c ≡ good n → Bare z c → nameIn (readField z) ≡ good n
+pub name-again : (z : List ℕ) (c : Field) (n : RecordName) → nameFrom c ≡ good n → Bare z c → nameIn (readField z) ≡ good n
 unfolding nameIn
 name-again z c n e b = ap (λ w. nameIn (readField w)) (sym (append-nil z)) ∙ ap nameIn (b .reads [] tt) ∙ e
 
-text-place : (x y z : List ℕ) (cs : List (List ℕ)) (n : RecordName) → nameIn (readField z) ≡ good n → textAt (x ∷ y ∷ z ∷ cs) ≡ textFrom 3 (shape n .columns) (shape n .tail)
+pub text-place : (x y z : List ℕ) (cs : List (List ℕ)) (n : RecordName) → nameIn (readField z) ≡ good n → textAt (x ∷ y ∷ z ∷ cs) ≡ textFrom 3 (shape n .columns) (shape n .tail)
 unfolding textAt textOfName
 text-place x y z cs n e = ap textOfName e
 

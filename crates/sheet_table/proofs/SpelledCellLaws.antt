@@ -78,9 +78,13 @@ requote-shown d = ap (λ z. 34 ∷ (z ++ (34 ∷ []))) (doubled-none (spellText 
 
 -- ---- no blank and no quote begins a cell
 
+pub no-blank : (sep x : ℕ) → 33 ≤ x → blankBeside sep x ≡ false
+unfolding blankBeside
+no-blank sep x h = ap₂ _||_ (ne-eqb x 32 (λ e. omega arith)) (ap (λ z. z && not (eqb sep 9)) (ne-eqb x 9 (λ e. omega arith)))
+
 high-clean : (sep x : ℕ) (l : List ℕ) → 35 ≤ x → Clean sep (x ∷ l)
-unfolding Clean blankBeside
-high-clean sep x l h = (ap₂ _||_ (ne-eqb x 32 (λ e. omega arith)) (ap (λ z. z && not (eqb sep 9)) (ne-eqb x 9 (λ e. omega arith))), above x h)
+unfolding Clean
+high-clean sep x l h = (no-blank sep x (omega arith), above x h)
 
 digits-clean : (sep : ℕ) (c : List ℕ) → All Digit c → Clean sep c
 unfolding Clean
