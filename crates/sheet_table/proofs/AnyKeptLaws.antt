@@ -192,12 +192,12 @@ line-same s l t e =
 
 -- ---- all lines
 
-advance-ok : {X : Type 0} (m : Result State) (n : ℕ) (k : State → Outcome Piece) (p : Piece) (r : List ℕ) → advance m n k ≡ ok p r → ((t : State) → m ≡ good t → k t ≡ ok p r → X) → X
+pub advance-ok : {X : Type 0} (m : Result State) (n : ℕ) (k : State → Outcome Piece) (p : Piece) (r : List ℕ) → advance m n k ≡ ok p r → ((t : State) → m ≡ good t → k t ≡ ok p r → X) → X
 unfolding advance
 advance-ok (good t) n k p r e f = f t refl e
 advance-ok (bad j) n k p r e f = not-ok e
 
-advance-on : (m : Result State) (n : ℕ) (k : State → Outcome Piece) (t : State) → m ≡ good t → advance m n k ≡ k t
+pub advance-on : (m : Result State) (n : ℕ) (k : State → Outcome Piece) (t : State) → m ≡ good t → advance m n k ≡ k t
 unfolding advance
 advance-on m n k t e = ap (λ z. advance z n k) e
 
@@ -209,7 +209,7 @@ lines-same (l ∷ ls) s n p r e =
     advance-on _ n _ t (ap (stepTold s) (line-same s l t q) ∙ q) ∙ lines-same ls t (suc n) p r z)
 
 -- the first record has a comma
-comma-sep : (l : List ℕ) → has 44 l ≡ true → sepIn l ≡ 44
+pub comma-sep : (l : List ℕ) → has 44 l ≡ true → sepIn l ≡ 44
 unfolding sepIn
 comma-sep l e = pick-true _ _ e
 

@@ -1,13 +1,16 @@
 pub mod AnyKeptLaws
 pub mod BareFieldLaws
 pub mod CutLaws
+pub mod EmptyRowLaws
 pub mod FieldCellLaws
 pub mod NameSizeLaws
 pub mod QuotedFieldLaws
 pub mod RecordKeptLaws
 pub mod RowKeptLaws
 pub mod SavedBytesLaws
+pub mod SavedReadLaws
 pub mod SavedRowLaws
+pub mod SepFoundLaws
 pub mod SpelledCellLaws
 pub mod TableBoundLaws
 pub mod TableEndsLaws

@@ -85,6 +85,10 @@ quote-opens : (l : List ℕ) → Opens (34 ∷ l)
 unfolding Opens
 quote-opens l = (omega arith, omega arith, refl)
 
+pub requote-opens : (c : List ℕ) → Opens (requote c)
+unfolding requote
+requote-opens c = quote-opens _
+
 choice-opens : (b : Bool) (x y t : List ℕ) → Opens (x ++ t) → Opens (y ++ t) → Opens (pick b x y ++ t)
 unfolding pick
 choice-opens true x y t p q = p
@@ -104,8 +108,8 @@ unfolding recordLine lineOf show
 line-opens r s = digits-open (decimal (r .track)) _ (decimal-digits (r .track) (omega (arith, s .track)))
 
 pub wrapped-opens : (q : Bool) (r : Record) → Sound r → Opens (wrappedRow q (recordLine asSheet r))
-unfolding wrappedRow requote pick
-wrapped-opens q r s = by-test (q || has 34 (recordLine asSheet r)) (λ e. rw e (quote-opens _)) (λ e. rw e (line-opens r s))
+unfolding wrappedRow pick
+wrapped-opens q r s = by-test (q || has 34 (recordLine asSheet r)) (λ e. rw e (requote-opens (recordLine asSheet r))) (λ e. rw e (line-opens r s))
 
 -- ---- such a row is no remark
 
