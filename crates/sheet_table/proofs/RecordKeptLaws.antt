@@ -264,7 +264,7 @@ text-place x y z cs n e = ap textOfName e
 -- what the cells of a record's line are
 pub record Back (cs : List (List ℕ)) (fs : List Field) : Type 0 where
   read : ReadAll (rowFields (textAt cs) cs) fs
-  pub alone : cellsLine cs ≡ rowLine cs
+  alone : cellsLine cs ≡ rowLine cs
 
 pub not-alone : (x y : List ℕ) (cs : List (List ℕ)) → isEmpty y ≡ false → cellsLine (x ∷ y ∷ cs) ≡ rowLine (x ∷ y ∷ cs)
 unfolding cellsLine allEmpty

@@ -35,7 +35,7 @@ pub record Row (l : List ℕ) (fs : List Field) : Type 0 where
   pub noReturn : NoReturn l
   pub comma : 2 ≤ length fs → has 44 l ≡ true
 
-pub or-true : (a : Bool) → (a || true) ≡ true
+or-true : (a : Bool) → (a || true) ≡ true
 or-true true = refl
 or-true false = refl
 

@@ -1,7 +1,7 @@
 -- THE law of the bridge: however a spreadsheet saves the table of a piece, the text of that table is read as that piece.
 use mathlib.Core.Path.{_≡_, refl, sym, ap, _∙_}
 use Prim.Native.Nat.{ℕ, suc}
-use mathlib.Core.Bool.{Bool, true, false, _||_}
+use mathlib.Core.Bool.{Bool, false, _||_}
 use mathlib.Core.List.{List, [], _∷_, _++_, append-nil}
 use Rattle.event.specs.Choice.{pick}
 use Rattle.event.specs.Outcome.{ok}
@@ -15,7 +15,6 @@ use Rattle.midicsv.specs.Record.{Record, recordFields, recordLine}
 use Rattle.midicsv.specs.Text.{headerRecord, pieceRecords}
 use Rattle.midicsv.specs.Result.{good, next}
 use Rattle.midicsv.specs.ReadRecord.{readLine}
-use Rattle.midicsv.specs.Lines.{linesOf}
 use Rattle.midicsv.specs.Order.{State, first, between, inside, finished, step}
 use Rattle.midicsv.specs.PieceOfText.{skipped, told, tellLine, stepTold, advance, ended, runLines, pieceTold, pieceOfText}
 use Rattle.midicsv.proofs.AllLaws.{All}

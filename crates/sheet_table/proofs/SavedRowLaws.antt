@@ -1,17 +1,16 @@
 -- A row of cells, whichever way it is saved, is cut into the cells of its fields, and its line is read as its record.
-use mathlib.Core.Path.{_≡_, refl, sym, ap, _∙_}
+use mathlib.Core.Path.{_≡_, refl, ap, _∙_}
 use Prim.Native.Nat.{ℕ, zero, suc, _+_, _≤_, _<_}
 use mathlib.Core.Bool.{Bool, false, _||_}
 use mathlib.Core.List.{List, [], _∷_, _++_}
 use native.Mathlib.Omega.{arith}
 use lib.ListN.{length}
 use Rattle.event.specs.Choice.{pick}
-use Rattle.event.specs.Outcome.{ok}
 use Rattle.event.proofs.ChoiceLaws.{by-test, pick-true, pick-false}
-use Rattle.midicsv.specs.Field.{Field, num, name}
+use Rattle.midicsv.specs.Field.{Field, name}
 use Rattle.midicsv.specs.Table.{spelled, Column, range, key, mode, freeType, Tail, none, oneText, sized, shape}
 use Rattle.midicsv.specs.Record.{Record, tailFields, fieldsOf, recordFields}
-use Rattle.midicsv.specs.Result.{Result, good}
+use Rattle.midicsv.specs.Result.{good}
 use Rattle.midicsv.specs.ReadField.{skip}
 use Rattle.midicsv.specs.ReadRecord.{readLine}
 use Rattle.midicsv.proofs.RowLaws.{InColumns}
@@ -23,7 +22,7 @@ use Rattle.sheet_table.specs.Ways.{Separator, comma, semicolon, tab, sep
 use Rattle.sheet_table.proofs.CutLaws.{Parts, parts-comma, parts-semicolon, parts-tab, Follows, cellsAfter, consCell, or-left, or-right, requoted-cut, Clean, clean-cut}
 use Rattle.sheet_table.proofs.FieldCellLaws.{isText}
 use Rattle.sheet_table.proofs.RowKeptLaws.{HoldAll, to-bare}
-use Rattle.sheet_table.proofs.RecordKeptLaws.{text-place, name-again, Back, not-alone, record-back, fields-back}
+use Rattle.sheet_table.proofs.RecordKeptLaws.{text-place, name-again, not-alone, record-back, fields-back}
 use Rattle.sheet_table.proofs.SpelledCellLaws.{field-clean, cellsOf, fields-hold}
 
 pub parts : (s : Separator) → Parts (sepByte s)

@@ -1,5 +1,5 @@
 -- The separator of a saved table is found in its first row, the Header's.
-use mathlib.Core.Path.{_≡_, refl, ap, ap₂, _∙_}
+use mathlib.Core.Path.{_≡_, refl, ap₂, _∙_}
 use Prim.Native.Nat.{ℕ, _≤_, _<_}
 use mathlib.Core.Bool.{Bool, true, false, false≢true, _||_}
 use mathlib.Core.List.{List, [], _∷_, _++_}
@@ -13,15 +13,14 @@ use Rattle.event.proofs.ChoiceLaws.{by-test, pick-true, pick-false}
 use Rattle.smf.specs.Piece.{Piece, LawfulDivision, LawfulPiece}
 use Rattle.midicsv.specs.Field.{decimal, Field}
 use Rattle.midicsv.specs.Table.{header, spelled, shape}
-use Rattle.midicsv.specs.Record.{Record, columnField, tailFields, fieldsOf, recordFields}
+use Rattle.midicsv.specs.Record.{columnField, tailFields, fieldsOf, recordFields}
 use Rattle.midicsv.specs.Text.{headerRecord}
 use Rattle.midicsv.proofs.AllLaws.{All, Digit}
 use Rattle.midicsv.proofs.DecimalReadLaws.{decimal-digits}
 use Rattle.sheet_table.specs.Cut.{has}
 use Rattle.sheet_table.specs.Table.{doubled, requote, sepIn}
 use Rattle.sheet_table.specs.Ways.{Separator, comma, semicolon, tab, sepByte, cellOf, savedCell, savedFurther, savedRow, wrappedRow}
-use Rattle.sheet_table.proofs.CutLaws.{Parts}
-use Rattle.sheet_table.proofs.RowKeptLaws.{or-true, has-later}
+use Rattle.sheet_table.proofs.RowKeptLaws.{has-later}
 use Rattle.sheet_table.proofs.AnyKeptLaws.{comma-sep}
 use Rattle.sheet_table.proofs.SavedRowLaws.{parts}
 use Rattle.sheet_table.proofs.SavedBytesLaws.{InCells, row-all}
