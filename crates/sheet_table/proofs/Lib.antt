@@ -16,3 +16,4 @@ pub mod TableBoundLaws
 pub mod TableEndsLaws
 pub mod TableLinesLaws
 pub mod TableReadings
+pub mod WaysReadings

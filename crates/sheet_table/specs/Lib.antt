@@ -3,3 +3,4 @@ pub mod Table
 pub mod TableAnswer
 pub mod TableReadings
 pub mod Ways
+pub mod WaysReadings
