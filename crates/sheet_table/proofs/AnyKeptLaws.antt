@@ -124,23 +124,23 @@ blank-line : (f : List (List ℕ) → List ℕ) (l : List ℕ) → skip l ≡ []
 unfolding lineBy ofCut
 blank-line f l e = pick-false _ _ (remark-skip l ∙ ap remarkIn e ∙ none-remark) ∙ ap (ofCut f) (blank-cut l e (blank-free l e))
 
-blank-alone : (l : List ℕ) → cellsLine (l ∷ []) ≡ lineBy rowLine 44 l
+pub one-alone : (l : List ℕ) → cellsLine (l ∷ []) ≡ lineBy rowLine 44 l
 unfolding cellsLine allEmpty
-blank-alone l = pick-true _ _ refl
+one-alone l = pick-true _ _ refl
 
 blank-gone : (l : List ℕ) → skip l ≡ [] → tableLine 44 l ≡ []
 unfolding tableLine
-blank-gone l e = blank-line cellsLine l e ∙ blank-alone l ∙ blank-line rowLine l e ∙ one-empty l (blank-empty l e)
+blank-gone l e = blank-line cellsLine l e ∙ one-alone l ∙ blank-line rowLine l e ∙ one-empty l (blank-empty l e)
 
 -- ---- a line of the text and the line that the table makes of it
 
-trimmed-none : (l : List ℕ) → NoReturn l → trimmed l ≡ l
+pub trimmed-none : (l : List ℕ) → NoReturn l → trimmed l ≡ l
 unfolding trimmed
 trimmed-none [] a = refl
 trimmed-none (c ∷ []) a = pick-false _ _ (a .0)
 trimmed-none (c ∷ d ∷ l) a = ap (λ z. c ∷ z) (trimmed-none (d ∷ l) (a .1))
 
-empty-passed : passedOver (trimmed []) ≡ true
+pub empty-passed : passedOver (trimmed []) ≡ true
 unfolding passedOver trimmed skip isComment
 empty-passed = refl
 
@@ -152,15 +152,17 @@ passed-line l e =
     (λ q. ap (λ z. passedOver (trimmed z)) (blank-gone l q) ∙ empty-passed)
     (λ q. ap (λ z. passedOver (trimmed z)) (remark-stands l (remark-skip l ∙ q)) ∙ trimmed-passed l e)
 
--- a line that is read
-read-line : (l : List ℕ) (r : Record) → readLine l ≡ good r → (trimmed (tableLine 44 l) ≡ tableLine 44 l) × (readLine (tableLine 44 l) ≡ good r)
-unfolding tableLine lineBy ofCut passedOver
-read-line l r e =
-    let w = line-kept l r e in
-    let same : tableLine 44 l ≡ cellsLine (w .cells) = pick-false _ _ (remark-skip l ∙ kept-remark (skip l) (read-kept l r e)) ∙ ap (ofCut cellsLine) (w .cuts) in
-    (trimmed-none (tableLine 44 l) (line-all (λ c. eqb c 13 ≡ false) refl refl 44 l (w .noReturn)), ap readLine same ∙ w .back)
+-- of a line that is read its cells are taken
+pub line-cells : (f : List (List ℕ) → List ℕ) (l : List ℕ) (r : Record) (e : readLine l ≡ good r) → lineBy f 44 l ≡ f (line-kept l r e .cells)
+unfolding lineBy ofCut passedOver
+line-cells f l r e = pick-false _ _ (remark-skip l ∙ kept-remark (skip l) (read-kept l r e)) ∙ ap (ofCut f) (line-kept l r e .cuts)
 
-tell-passed : (l : List ℕ) → passedOver (trimmed l) ≡ true → tellLine l ≡ passed
+-- a line that is read
+pub read-line : (l : List ℕ) (r : Record) → readLine l ≡ good r → readLine (tableLine 44 l) ≡ good r
+unfolding tableLine
+read-line l r e = let w = line-kept l r e in ap readLine (line-cells cellsLine l r e ∙ w .alone) ∙ w .back
+
+pub tell-passed : (l : List ℕ) → passedOver (trimmed l) ≡ true → tellLine l ≡ passed
 unfolding tellLine framed
 tell-passed l e = pick-true _ _ e
 
@@ -168,11 +170,15 @@ tell-kept : (l : List ℕ) → passedOver (trimmed l) ≡ false → tellLine l �
 unfolding tellLine framed
 tell-kept l e = pick-false _ _ e
 
-tell-read : (l : List ℕ) (r : Record) → passedOver (trimmed l) ≡ false → readLine (trimmed l) ≡ good r → tellLine (tableLine 44 (trimmed l)) ≡ told (good r)
-tell-read l r n e =
-    let (t, q) = read-line (trimmed l) r e in
-    let m = tableLine 44 (trimmed l) in
-    tell-kept m (ap passedOver t ∙ read-kept m r q) ∙ ap (λ z. told (readLine z)) t ∙ ap told q
+-- a row without CR, of which the table makes a line that is read
+pub row-told : (sep : ℕ) (l : List ℕ) (r : Record) → NoReturn l → readLine (tableLine sep l) ≡ good r → tellLine (tableLine sep l) ≡ told (good r)
+row-told sep l r n e =
+    let m = tableLine sep l in
+    let t = trimmed-none m (line-all (λ c. eqb c 13 ≡ false) refl refl sep l n) in
+    tell-kept m (ap passedOver t ∙ read-kept m r e) ∙ ap (λ z. told (readLine z)) t ∙ ap told e
+
+tell-read : (l : List ℕ) (r : Record) → readLine (trimmed l) ≡ good r → tellLine (tableLine 44 (trimmed l)) ≡ told (good r)
+tell-read l r e = row-told 44 (trimmed l) r (line-kept (trimmed l) r e .noReturn) (read-line (trimmed l) r e)
 
 told-good : {X : Type 0} (s : State) (m : Result Record) (t : State) → stepTold s (told m) ≡ good t → ((r : Record) → m ≡ good r → X) → X
 unfolding stepTold
@@ -182,16 +188,16 @@ line-same : (s : State) (l : List ℕ) (t : State) → stepTold s (tellLine l) �
 line-same s l t e =
     by-test (passedOver (trimmed l))
     (λ q. tell-passed (tableLine 44 (trimmed l)) (passed-line (trimmed l) q) ∙ sym (tell-passed l q))
-    (λ q. told-good s (readLine (trimmed l)) t (ap (stepTold s) (sym (tell-kept l q)) ∙ e) (λ r z. tell-read l r q z ∙ ap told (sym z) ∙ sym (tell-kept l q)))
+    (λ q. told-good s (readLine (trimmed l)) t (ap (stepTold s) (sym (tell-kept l q)) ∙ e) (λ r z. tell-read l r z ∙ ap told (sym z) ∙ sym (tell-kept l q)))
 
 -- ---- all lines
 
-advance-ok : {X : Type 0} (m : Result State) (n : ℕ) (k : State → Outcome Piece) (p : Piece) (r : List ℕ) → advance m n k ≡ ok p r → ((t : State) → m ≡ good t → k t ≡ ok p r → X) → X
+pub advance-ok : {X : Type 0} (m : Result State) (n : ℕ) (k : State → Outcome Piece) (p : Piece) (r : List ℕ) → advance m n k ≡ ok p r → ((t : State) → m ≡ good t → k t ≡ ok p r → X) → X
 unfolding advance
 advance-ok (good t) n k p r e f = f t refl e
 advance-ok (bad j) n k p r e f = not-ok e
 
-advance-on : (m : Result State) (n : ℕ) (k : State → Outcome Piece) (t : State) → m ≡ good t → advance m n k ≡ k t
+pub advance-on : (m : Result State) (n : ℕ) (k : State → Outcome Piece) (t : State) → m ≡ good t → advance m n k ≡ k t
 unfolding advance
 advance-on m n k t e = ap (λ z. advance z n k) e
 
@@ -203,7 +209,7 @@ lines-same (l ∷ ls) s n p r e =
     advance-on _ n _ t (ap (stepTold s) (line-same s l t q) ∙ q) ∙ lines-same ls t (suc n) p r z)
 
 -- the first record has a comma
-comma-sep : (l : List ℕ) → has 44 l ≡ true → sepIn l ≡ 44
+pub comma-sep : (l : List ℕ) → has 44 l ≡ true → sepIn l ≡ 44
 unfolding sepIn
 comma-sep l e = pick-true _ _ e
 

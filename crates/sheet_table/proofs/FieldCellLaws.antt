@@ -231,7 +231,7 @@ module _ (b : List ℕ) (before : Blanks b) (f : Field) (r : List ℕ) where
       let P : ℕ → Type 0 = λ x. eqb x 13 ≡ false in
       let i = inside-return e (blanks-inside e a) in
       all-append P b (34 ∷ (doubled c ++ (34 ∷ e))) (inside-return b (blanks-inside b before))
-      (refl, all-append P (doubled c) (34 ∷ e) (doubled-in P refl refl c n) (refl, i))
+      (refl, all-append P (doubled c) (34 ∷ e) (doubled-in P refl c n) (refl, i))
 
   text-cell : (m d q : List ℕ) → readQuoted m plain ≡ ok d q → finish (quoted d) q ≡ ok f r → FieldCell (b ++ (34 ∷ m)) f r
   text-cell m d q e k =

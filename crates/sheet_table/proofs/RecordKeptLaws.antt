@@ -253,20 +253,20 @@ module _ (x y z : List ℕ) (a b c : Field) (ta : isText a ≡ false) (tb : isTe
 
 -- ---- the name is found again, and the row is no single cell
 
-name-again : (z : List ℕ) (c : Field) (n : RecordName) → nameFrom c ≡ good n → Bare z c → nameIn (readField z) ≡ good n
+pub name-again : (z : List ℕ) (c : Field) (n : RecordName) → nameFrom c ≡ good n → Bare z c → nameIn (readField z) ≡ good n
 unfolding nameIn
 name-again z c n e b = ap (λ w. nameIn (readField w)) (sym (append-nil z)) ∙ ap nameIn (b .reads [] tt) ∙ e
 
-text-place : (x y z : List ℕ) (cs : List (List ℕ)) (n : RecordName) → nameIn (readField z) ≡ good n → textAt (x ∷ y ∷ z ∷ cs) ≡ textFrom 3 (shape n .columns) (shape n .tail)
+pub text-place : (x y z : List ℕ) (cs : List (List ℕ)) (n : RecordName) → nameIn (readField z) ≡ good n → textAt (x ∷ y ∷ z ∷ cs) ≡ textFrom 3 (shape n .columns) (shape n .tail)
 unfolding textAt textOfName
 text-place x y z cs n e = ap textOfName e
 
 -- what the cells of a record's line are
-record Back (cs : List (List ℕ)) (fs : List Field) : Type 0 where
+pub record Back (cs : List (List ℕ)) (fs : List Field) : Type 0 where
   read : ReadAll (rowFields (textAt cs) cs) fs
   alone : cellsLine cs ≡ rowLine cs
 
-not-alone : (x y : List ℕ) (cs : List (List ℕ)) → isEmpty y ≡ false → cellsLine (x ∷ y ∷ cs) ≡ rowLine (x ∷ y ∷ cs)
+pub not-alone : (x y : List ℕ) (cs : List (List ℕ)) → isEmpty y ≡ false → cellsLine (x ∷ y ∷ cs) ≡ rowLine (x ∷ y ∷ cs)
 unfolding cellsLine allEmpty
 not-alone x y cs e = pick-false _ _ (ap (λ z. z && allEmpty cs) e)
 
@@ -278,7 +278,7 @@ named-back x y z cs a b c fs n v ta tb q k e h =
     let place = text-place x y z cs n (name-again z c n q (to-bare z c tc (h .1 .1 .0))) in
     record { read = rw place (sort-back x y z a b c ta tb tc n cs fs v (sort n) k e h); alone = not-alone x y (z ∷ cs) (to-bare y b tb (h .1 .0) .some) }
 
-record-back : (cs : List (List ℕ)) (fs : List Field) (r : Record) → recordOf fs ≡ good r → HoldAll cs fs → Back cs fs
+pub record-back : (cs : List (List ℕ)) (fs : List Field) (r : Record) → recordOf fs ≡ good r → HoldAll cs fs → Back cs fs
 unfolding recordOf
 record-back cs [] r e h = not-good e
 record-back cs (a ∷ []) r e h = not-good e
@@ -297,10 +297,10 @@ record-back (x ∷ y ∷ z ∷ cs) (a ∷ b ∷ c ∷ fs) r e h =
 -- ---- the line
 
 -- the line of cells that were cut is read as the record
-fields-back : (cs : List (List ℕ)) (fs : List Field) (r : Record) → recordOf fs ≡ good r → Back cs fs → readLine (cellsLine cs) ≡ good r
+pub fields-back : (cs : List (List ℕ)) (fs : List Field) (r : Record) → recordOf fs ≡ good r → Back cs fs → readLine (rowLine cs) ≡ good r
 unfolding readLine ofFields rowLine recordOf
 fields-back cs [] r e w = not-good e
-fields-back cs (f ∷ fs) r e w = ap (λ z. ofFields (allFields z)) (w .alone) ∙ ap ofFields (joined-read (rowFields (textAt cs) cs) f fs (w .read)) ∙ e
+fields-back cs (f ∷ fs) r e w = ap ofFields (joined-read (rowFields (textAt cs) cs) f fs (w .read)) ∙ e
 
 two-fields : (fs : List Field) (r : Record) → recordOf fs ≡ good r → 2 ≤ length fs
 unfolding recordOf
@@ -312,7 +312,8 @@ two-fields (a ∷ b ∷ fs) r e = omega arith
 pub record Kept (l : List ℕ) (r : Record) : Type 0 where
   pub cells : List (List ℕ)
   pub cuts : cut 44 l ≡ good cells
-  pub back : readLine (cellsLine cells) ≡ good r
+  pub alone : cellsLine cells ≡ rowLine cells
+  pub back : readLine (rowLine cells) ≡ good r
   pub noReturn : NoReturn l
   pub comma : has 44 l ≡ true
 
@@ -320,10 +321,12 @@ of-kept : (l : List ℕ) (m : Outcome (List Field)) (r : Record) → allFields l
 unfolding ofFields
 of-kept l (ok fs q) r e z =
     let w = fields-row l fs q e in
+    let b = record-back (w .cells) fs r z (w .holds) in
     record {
       cells = w .cells;
       cuts = w .cuts;
-      back = fields-back (w .cells) fs r z (record-back (w .cells) fs r z (w .holds));
+      alone = b .alone;
+      back = fields-back (w .cells) fs r z b;
       noReturn = w .noReturn;
       comma = w .comma (two-fields fs r z);
     }

@@ -39,10 +39,10 @@ or-true : (a : Bool) → (a || true) ≡ true
 or-true true = refl
 or-true false = refl
 
-has-later : (c t : List ℕ) → has 44 (c ++ (44 ∷ t)) ≡ true
+pub has-later : (k : ℕ) (c t : List ℕ) → eqb k k ≡ true → has k (c ++ (k ∷ t)) ≡ true
 unfolding has
-has-later [] t = refl
-has-later (x ∷ c) t = ap (λ z. eqb x 44 || z) (has-later c t) ∙ or-true (eqb x 44)
+has-later k [] t e = ap (λ z. z || has k t) e
+has-later k (x ∷ c) t e = ap (λ z. eqb x k || z) (has-later k c t e) ∙ or-true (eqb x k)
 
 cons-cells : (c : List ℕ) (cs : List (List ℕ)) → consCell c (good cs) ≡ good (c ∷ cs)
 unfolding consCell
@@ -74,7 +74,7 @@ row-more l f c m fs w z =
       cuts = w .cuts ∙ ap (consCell (w .cell)) (more-cells c m ∙ z .cuts) ∙ cons-cells (w .cell) (z .cells);
       holds = (w .holds, z .holds);
       noReturn = rw e (all-append (λ x. eqb x 13 ≡ false) (w .part) (44 ∷ m) (w .noReturn) (refl, z .noReturn));
-      comma = λ h. ap (has 44) e ∙ has-later (w .part) m;
+      comma = λ h. ap (has 44) e ∙ has-later 44 (w .part) m refl;
     }
 
 onward-row : (l : List ℕ) (f : Field) (m : List ℕ) (n : ℕ) (fs : List Field) (q : List ℕ) → FieldCell l f m → onward f m (readFields n) ≡ ok fs q

@@ -14,10 +14,22 @@ use Rattle.midicsv.proofs.LineLaws.{NoFeed, lines-feed}
 use Rattle.sheet_table.specs.Cut.{blankBeside, Within, bare, lead, quotes, aQuote, closed, opening, onCell, newCell, cutFrom, cut}
 use Rattle.sheet_table.specs.Table.{isEmpty, allEmpty, keepBefore, dropEmpty, doubled, requote, plainCell, plainCells, fieldsTo, TextPlace, nowhere, after, textAt, rowFields, furtherJoined, joined, rowLine, ofCut, isRemark, lineBy, cellsLine, tableLine, sepOf, unmarked, tableLines, tableOf, tableText}
 
-list-pick : (P : ℕ → Type 0) (t : Bool) (x y : List ℕ) → All P x → All P y → All P (pick t x y)
+pub list-pick : (P : ℕ → Type 0) (t : Bool) (x y : List ℕ) → All P x → All P y → All P (pick t x y)
 unfolding pick
 list-pick P true x y a b = a
 list-pick P false x y a b = b
+
+-- ---- a property of the bytes of a cell and of a quote holds in quotes
+
+module _ (P : ℕ → Type 0) (quote : P 34) where
+  pub doubled-in : (c : List ℕ) → All P c → All P (doubled c)
+  unfolding doubled
+  doubled-in [] a = tt
+  doubled-in (x ∷ c) a = list-pick P (eqb x 34) _ _ (quote, (quote, doubled-in c (a .1))) (a .0, doubled-in c (a .1))
+
+  pub requote-in : (c : List ℕ) → All P c → All P (requote c)
+  unfolding requote
+  requote-in c a = (quote, all-append P (doubled c) (34 ∷ []) (doubled-in c a) (quote, tt))
 
 -- ---- a property of the bytes of a row, of a quote and of a comma holds of the bytes of its line
 
@@ -72,18 +84,9 @@ module _ (P : ℕ → Type 0) (quote : P 34) (comma : P 44) where
   unfolding cut
   cut-in sep l a = from-in sep l (opening sep l) a
 
-  pub doubled-in : (c : List ℕ) → All P c → All P (doubled c)
-  unfolding doubled
-  doubled-in [] a = tt
-  doubled-in (x ∷ c) a = list-pick P (eqb x 34) _ _ (quote, (quote, doubled-in c (a .1))) (a .0, doubled-in c (a .1))
-
-  requote-in : (c : List ℕ) → All P c → All P (requote c)
-  unfolding requote
-  requote-in c a = (quote, all-append P (doubled c) (34 ∷ []) (doubled-in c a) (quote, tt))
-
   plain-in : (c : List ℕ) → All P c → All P (plainCell c)
   unfolding plainCell
-  plain-in c a = list-pick P _ _ _ (requote-in c a) a
+  plain-in c a = list-pick P _ _ _ (requote-in P quote c a) a
 
   plains-in : (cs : List (List ℕ)) → AllIn cs → AllIn (plainCells cs)
   unfolding plainCells
@@ -102,8 +105,8 @@ module _ (P : ℕ → Type 0) (quote : P 34) (comma : P 44) where
 
   to-in : (k : ℕ) (cs : List (List ℕ)) → AllIn cs → AllIn (fieldsTo k cs)
   unfolding fieldsTo
-  to-in zero [] a = (requote-in [] tt, tt)
-  to-in zero (c ∷ cs) a = (requote-in c (a .0), plains-in (dropEmpty cs) (drop-in cs (a .1)))
+  to-in zero [] a = (requote-in P quote [] tt, tt)
+  to-in zero (c ∷ cs) a = (requote-in P quote c (a .0), plains-in (dropEmpty cs) (drop-in cs (a .1)))
   to-in (suc k) [] a = tt
   to-in (suc k) (c ∷ cs) a = (plain-in c (a .0), to-in k cs (a .1))
 
