@@ -1,4 +1,4 @@
--- What a spreadsheet needs of a cell so that it stays the text that it is (docs/SPREADSHEET.md, "The sheet").
+-- What a spreadsheet needs of a cell so that it stays the text that it is (docs/SPREADSHEET.md, "The sheet: what is written").
 use mathlib.Core.Path.{_≡_}
 use Prim.Native.Nat.{ℕ, _<_, _≤_}
 use mathlib.Core.Bool.{Bool, true, false, _||_}

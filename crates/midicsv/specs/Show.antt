@@ -8,7 +8,7 @@ use Rattle.midicsv.specs.Spell.{spellText}
 pub data Form : Type 0 where
   asText asSheet : Form
 
--- "fields joined by comma and one space"; in a sheet by a comma alone (rule 1)
+-- "fields joined by comma and one space"; in a sheet by "a comma without a blank" (docs/SPREADSHEET.md, rule 1)
 unfoldable pub gap : Form → List ℕ
 gap asText = 44 ∷ 32 ∷ []
 gap asSheet = 44 ∷ []

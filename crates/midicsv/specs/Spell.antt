@@ -1,4 +1,4 @@
--- How a text is spelled in a cell of the sheet form (docs/SPREADSHEET.md, "The sheet", rules 2 to 4), so that no spreadsheet changes it.
+-- How a text is spelled in a cell of the sheet form (docs/SPREADSHEET.md, "The sheet: what is written", rules 2 to 4), so that no spreadsheet changes it.
 use Prim.Native.Nat.{ℕ, _+_, _/_, _%_}
 use mathlib.Core.Bool.{Bool, true, false, _&&_, _||_, not}
 use mathlib.Core.List.{List, [], _∷_, _++_}
@@ -25,7 +25,7 @@ isMark c = eqb c 33 || (eqb c 58 || (eqb c 63 || ((leb 39 c && leb c 43) || (leb
 unfoldable pub isSolid : ℕ → Bool
 isSolid c = isLetter c || isMark c
 
--- inside a text also "a blank and a comma stand"
+-- inside a text also "A blank and a comma stand"
 unfoldable pub standsInside : ℕ → Bool
 standsInside c = isSolid c || (eqb c 32 || eqb c 44)
 

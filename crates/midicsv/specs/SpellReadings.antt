@@ -1,4 +1,4 @@
--- Texts and their cells: the table of docs/SPREADSHEET.md, "The sheet".
+-- Texts and their cells: the table of docs/SPREADSHEET.md, "The sheet: what is written".
 use mathlib.Core.Path.{_≡_}
 use Prim.Native.Nat.{ℕ}
 use mathlib.Core.List.{List, [], _∷_}

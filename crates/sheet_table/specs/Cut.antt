@@ -1,4 +1,4 @@
--- The cells of a row that a spreadsheet saved (docs/SPREADSHEET.md, "What is read", rule 4).
+-- The cells of a row that a spreadsheet saved (docs/SPREADSHEET.md, "The saved table: what is read", rule 4).
 use Prim.Native.Nat.{ℕ}
 use mathlib.Core.Bool.{Bool, true, false, _&&_, _||_, not}
 use mathlib.Core.List.{List, [], _∷_}
@@ -14,7 +14,7 @@ unfoldable pub has : ℕ → List ℕ → Bool
 has c [] = false
 has c (d ∷ l) = eqb d c || has c l
 
--- a blank: a space, or a tab where that does not separate
+-- "A blank is .. a space, or a tab where tab is not the separator"
 unfoldable pub blankBeside : ℕ → ℕ → Bool
 blankBeside sep c = eqb c 32 || (eqb c 9 && not (eqb sep 9))
 

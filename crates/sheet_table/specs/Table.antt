@@ -1,4 +1,4 @@
--- The text of a saved table, line for line (docs/SPREADSHEET.md, "What is read"): tableText. It is total; a row that is no record becomes a
+-- The text of a saved table, line for line (docs/SPREADSHEET.md, "The saved table: what is read", rules 1 to 6): tableText. It is total; a row that is no record becomes a
 -- line that is refused there.
 use Prim.Native.Nat.{ℕ, zero, suc}
 use mathlib.Core.Bool.{Bool, true, false, _&&_, _||_, not}
@@ -17,7 +17,7 @@ use Rattle.sheet_table.specs.Cut.{has, skipBeside, begins, isNone, cut}
 
 -- ---- empty cells
 
--- nothing but blanks
+-- "only spaces and tabs in it, or nothing"
 unfoldable pub isEmpty : List ℕ → Bool
 isEmpty c = isNone (skip c)
 
@@ -47,7 +47,7 @@ doubled (c ∷ l) = pick (eqb c 34) (34 ∷ 34 ∷ doubled l) (c ∷ doubled l)
 unfoldable pub requote : List ℕ → List ℕ
 requote c = 34 ∷ (doubled c ++ (34 ∷ []))
 
--- numbers and names stand bare; a cell with a comma or a quote in it is neither: in quotes it is refused and does not fall apart
+-- "Plain": "the content as it is; but if it has a comma or a quote in it, in quotes, each quote twice"
 unfoldable pub plainCell : List ℕ → List ℕ
 plainCell c = pick (has 44 c || has 34 c) (requote c) c
 
@@ -56,7 +56,8 @@ unfoldable pub plainCells : List (List ℕ) → List (List ℕ)
 plainCells [] = []
 plainCells (c ∷ cs) = plainCell c ∷ plainCells cs
 
--- so many plain cells, then the text, which is empty where its cell is missing; then what follows it, without the empty cells at the end
+-- a record with a text cell after so many others: these plain, then the text in quotes ("Is the text cell the first that is missing, the text is empty"), then
+-- "Of the cells after it those up to the last that is not empty"
 unfoldable pub fieldsTo : ℕ → List (List ℕ) → List (List ℕ)
 fieldsTo zero [] = requote [] ∷ []
 fieldsTo zero (c ∷ cs) = requote c ∷ plainCells (dropEmpty cs)
@@ -78,18 +79,18 @@ textFrom i (key ∷ cs) t = textFrom (suc i) cs t
 textFrom i (mode ∷ cs) t = after i
 textFrom i (freeType ∷ cs) t = textFrom (suc i) cs t
 
--- "in the seven texts cell 4, in Key_signature cell 5": after Track, Time and name
+-- "In the seven texts .. the text cell is the fourth, in Key_signature the fifth, in all others there is none": after Track, Time and name
 unfoldable pub textOfName : Result RecordName → TextPlace
 textOfName (good n) = textFrom 3 (shape n .columns) (shape n .tail)
 textOfName (bad m) = nowhere
 
--- the name that a whole cell holds, as the reader reads names
+-- "if it is nothing but a name as the reader reads it"
 unfoldable pub nameIn : Outcome Field → Result RecordName
 nameIn (ok f []) = nameFrom f
 nameIn (ok f (c ∷ r)) = bad 23
 nameIn (refused n p) = bad 23
 
--- by the third cell
+-- "The third cell's content tells the record"
 unfoldable pub textAt : List (List ℕ) → TextPlace
 textAt [] = nowhere
 textAt (a ∷ []) = nowhere
@@ -141,11 +142,11 @@ tableLine sep l = lineBy cellsLine sep l
 
 -- ---- rules 1 and 2: the table
 
--- "comma if it has one, else semicolon, else tab, else comma"
+-- "a comma if that line has one, else a semicolon if it has one, else a tab if it has one, else a comma"
 unfoldable pub sepIn : List ℕ → ℕ
 sepIn l = pick (has 44 l) 44 (pick (has 59 l) 59 (pick (has 9 l) 9 44))
 
--- in the first line that the reader does not pass over
+-- "in the first line that the reader of texts would not pass over"
 unfoldable pub sepOf : List (List ℕ) → ℕ
 sepOf [] = 44
 sepOf (l ∷ ls) = pick (passedOver (trimmed l)) (sepOf ls) (sepIn (trimmed l))
@@ -157,7 +158,7 @@ unmarked (a ∷ []) = a ∷ []
 unmarked (a ∷ b ∷ []) = a ∷ b ∷ []
 unmarked (a ∷ b ∷ c ∷ s) = pick (eqb a 239 && (eqb b 187 && eqb c 191)) s (a ∷ b ∷ c ∷ s)
 
--- "One CR at the end of each line is dropped. Every line gets LF"
+-- "One CR at the end of a line is dropped. Every line of the text ends in LF"
 unfoldable pub tableLines : ℕ → List (List ℕ) → List ℕ
 tableLines sep [] = []
 tableLines sep (l ∷ ls) = tableLine sep (trimmed l) ++ (10 ∷ tableLines sep ls)

@@ -1,4 +1,4 @@
--- Saved tables and the texts that they are: the examples of docs/SPREADSHEET.md.
+-- Saved tables and the texts that they are, by the rules of docs/SPREADSHEET.md.
 use mathlib.Core.Path.{_≡_}
 use Prim.Native.Nat.{ℕ}
 use mathlib.Core.List.{List, [], _∷_, _++_}
