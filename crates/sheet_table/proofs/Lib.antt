@@ -1,1 +1,2 @@
 pub mod TableReadings
+pub mod TableAnswerLaws
