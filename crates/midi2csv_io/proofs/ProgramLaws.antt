@@ -14,7 +14,8 @@ use Rattle.smf.specs.Reader.{readFile}
 use Rattle.smf.specs.Answer.{success, refusal, roomNeeded}
 use Rattle.smf.specs.declared.Answer.{Answer}
 use Rattle.midicsv.specs.Text.{textOf}
-use Rattle.midicsv_write.specs.ToText.{textAnswer, textLeaves}
+use Rattle.midicsv.specs.Show.{asText}
+use Rattle.midicsv_write.specs.ToText.{writtenAnswer, writtenLeaves}
 use Rattle.midi2csv_io.specs.Program.{inputLimit, programAnswer, programLeaves}
 
 module _ (file old : List ℕ) where
@@ -22,7 +23,7 @@ module _ (file old : List ℕ) where
   unfolding programAnswer programLeaves
   over-limit h = let no = lt-leb (length file) inputLimit h in (sym (pick-false _ _ no), sym (pick-false _ _ no))
 
-  pub within-limit : length file ≤ inputLimit → (textAnswer (length old) (readFile file) ≡ programAnswer (length old) file) × (textLeaves (readFile file) old ≡ programLeaves file old)
+  pub within-limit : length file ≤ inputLimit → (writtenAnswer asText (length old) (readFile file) ≡ programAnswer (length old) file) × (writtenLeaves asText (readFile file) old ≡ programLeaves file old)
   unfolding programAnswer programLeaves
   within-limit h = let yes = le-leb (length file) inputLimit h in (sym (pick-true _ _ yes), sym (pick-true _ _ yes))
 
@@ -35,8 +36,8 @@ choice-within : (room n : ℕ) → Within room (pick (leb n room) (success n) (r
 unfolding pick
 choice-within room n = by-test (leb n room) (λ e. rw e (λ z. leb-true n room e)) (λ e. rw e (λ z. let w : _≡_ {A = ℕ} 14 0 = z in absurd (omega (arith, w))))
 
-text-within : (room : ℕ) (x : Outcome Piece) → Within room (textAnswer room x)
-unfolding textAnswer
+text-within : (room : ℕ) (x : Outcome Piece) → Within room (writtenAnswer asText room x)
+unfolding writtenAnswer
 text-within room (ok p r) = choice-within room (length (textOf p))
 text-within room (refused n q) = λ z. omega arith
 

@@ -7,7 +7,8 @@ use Rattle.event.specs.Choice.{pick}
 use Rattle.smf.specs.Reader.{readFile}
 use Rattle.smf.specs.Answer.{refusal}
 use Rattle.smf.specs.declared.Answer.{Answer}
-use Rattle.midicsv_write.specs.ToText.{textAnswer, textLeaves}
+use Rattle.midicsv.specs.Show.{asText}
+use Rattle.midicsv_write.specs.ToText.{writtenAnswer, writtenLeaves}
 
 -- "at most 16,384 bytes"
 abbrev pub inputLimit : ℕ
@@ -15,8 +16,8 @@ inputLimit = 16384
 
 -- the answer for a room's length and what was read
 unfoldable pub programAnswer : ℕ → List ℕ → Answer
-programAnswer room file = pick (leb (length file) inputLimit) (textAnswer room (readFile file)) (refusal 1 0)
+programAnswer room file = pick (leb (length file) inputLimit) (writtenAnswer asText room (readFile file)) (refusal 1 0)
 
 -- what the room holds afterwards
 unfoldable pub programLeaves : List ℕ → List ℕ → List ℕ
-programLeaves file old = pick (leb (length file) inputLimit) (textLeaves (readFile file) old) old
+programLeaves file old = pick (leb (length file) inputLimit) (writtenLeaves asText (readFile file) old) old

@@ -20,7 +20,7 @@ use Rattle.midicsv.specs.Field.{decimal, digitsOf}
 use Rattle.midicsv.specs.Show.{Form, asText, asSheet}
 use Rattle.midicsv.specs.Table.{words, start-track, end-of-file, event, eventSpelled, spelled, eventShape, shape}
 use Rattle.midicsv.specs.Record.{Record, recordLine, nameOf, valuesOf}
-use Rattle.midicsv.specs.Text.{mark, eventRecord, eventRecords, trackRecords, headerRecord, pieceRecords, recordsText, writtenAs}
+use Rattle.midicsv.specs.Text.{mark, eventRecord, eventRecords, trackRecords, headerRecord, pieceRecords, recordsText, writtenAs, most}
 use Rattle.midicsv.proofs.RowLaws.{InColumn, InColumns, InTail, rowed}
 use Rattle.midicsv.proofs.LineBoundLaws.{gapCost, columnCost, columnsCost, tailCost, cost, record-cost}
 
@@ -58,11 +58,6 @@ text-cost (suc (suc (suc (suc (suc (suc zero)))))) h k = omega arith
 text-cost (suc (suc (suc (suc (suc (suc (suc zero))))))) h k = omega arith
 text-cost (suc (suc (suc (suc (suc (suc (suc (suc t)))))))) h k = absurd (omega arith)
 
--- the most bytes that are written for n bytes of a file
-unfoldable pub most : Form → ℕ → ℕ
-most asText n = 25 * n
-most asSheet n = 23 * n
-
 pub sum-bound : (w : Form) {x y : ℕ} (a b : ℕ) → x ≤ most w a → y ≤ most w b → x + y ≤ most w (a + b)
 unfolding most
 sum-bound asText a b h k = omega arith
@@ -72,6 +67,11 @@ pub more-bound : (w : Form) {x a b : ℕ} → x ≤ most w a → a ≤ b → x �
 unfolding most
 more-bound asText h k = omega arith
 more-bound asSheet h k = omega arith
+
+pub most-few : (w : Form) (n : ℕ) → most w n ≤ 25 * n
+unfolding most
+most-few asText n = omega arith
+most-few asSheet n = omega arith
 
 -- what is short beside 7 bytes
 short-bound : (w : Form) {x : ℕ} → x ≤ 100 → x ≤ most w 7

@@ -17,7 +17,7 @@ use Rattle.midicsv.specs.Field.{decimal}
 use Rattle.midicsv.specs.Show.{Form, asText, asSheet, lineOf, show}
 use Rattle.midicsv.specs.Table.{start-track, end-of-file, shape}
 use Rattle.midicsv.specs.Record.{Record, recordLine}
-use Rattle.midicsv.specs.Text.{mark, eventRecord, eventRecords, trackRecords, headerRecord, pieceRecords, recordsText, writtenAs}
+use Rattle.midicsv.specs.Text.{mark, eventRecord, eventRecords, trackRecords, headerRecord, pieceRecords, recordsText, writtenAs, most}
 use Rattle.midicsv.specs.Result.{Result, good, bad, next}
 use Rattle.midicsv.specs.ReadRecord.{together}
 use Rattle.midicsv.specs.Lines.{linesOf, passedOver}
@@ -25,7 +25,7 @@ use Rattle.midicsv.specs.Order.{State, first, step}
 use Rattle.midicsv.specs.PieceOfText.{told, framed, tellLine, stepTold, advance, ended, runLines, pieceTold, pieceOfText, textLimit}
 use Rattle.midicsv.proofs.AllLaws.{All, Printable}
 use Rattle.midicsv.proofs.RowLaws.{InColumn, InColumns, InTail, rowed}
-use Rattle.midicsv.proofs.BoundLaws.{most, written-bound}
+use Rattle.midicsv.proofs.BoundLaws.{written-bound}
 use Rattle.midicsv.proofs.DecimalReadLaws.{decimal-digits}
 use Rattle.midicsv.proofs.KnownLaws.{frames-known, kind-known}
 use Rattle.midicsv.proofs.RecordReadLaws.{Sound, line-back, record-printable}

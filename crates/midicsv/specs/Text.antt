@@ -1,5 +1,5 @@
 -- The text of a piece, and its sheet form.
-use Prim.Native.Nat.{ℕ, suc}
+use Prim.Native.Nat.{ℕ, suc, _*_}
 use mathlib.Core.List.{List, [], _∷_, _++_}
 use lib.ListN.{length}
 use Rattle.event.specs.Event.{Event}
@@ -51,3 +51,8 @@ textOf p = writtenAs asText p
 -- THE sheet form of a piece (docs/SPREADSHEET.md)
 abbrev pub sheetOf : Piece → List ℕ
 sheetOf p = writtenAs asSheet p
+
+-- "The text of an accepted file of n bytes has at most 25·n bytes", and its sheet at most 23·n
+unfoldable pub most : Form → ℕ → ℕ
+most asText n = 25 * n
+most asSheet n = 23 * n

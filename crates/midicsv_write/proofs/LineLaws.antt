@@ -21,71 +21,94 @@ use Rattle.event.proofs.EventKind.{the-type}
 use Rattle.event.proofs.ChoiceLaws.{by-test, or-cases, and-both}
 use Rattle.event_write.specs.Written.{Written}
 use Rattle.event_write.proofs.DataLaws.{data-length}
-use Rattle.midicsv.specs.Field.{bytes, digitsOf, decimal, inOctal, escape, escapeAll, Field, num}
-use Rattle.midicsv.specs.Show.{quote, show, joined, further, lineOf}
+use Rattle.midicsv.specs.Field.{bytes, digitsOf, decimal, Field, num}
+use Rattle.midicsv.specs.Show.{Form, asText, asSheet, gap, show, joined, further, lineOf}
 use Rattle.midicsv.specs.Table.{EventName, note-off, note-on, poly-aftertouch, control-change, program-change, channel-aftertouch, pitch-bend, system-exclusive, system-exclusive-packet, sequence-number, words, channel-prefix, midi-port, end-track, set-tempo, smpte-offset, time-signature, key-signature, sequencer-specific, unknown-meta, start-track, end-of-file, eventSpelled, spelled, Column, range, key, mode, freeType, Tail, none, oneText, sized, eventShape, shape}
 use Rattle.midicsv.specs.Record.{columnField, tailFields, fieldsOf, recordLine, nameOf, valuesOf}
 use Rattle.midicsv.specs.Text.{mark, eventRecord, recordsText}
 use Rattle.midicsv.proofs.KindAcceptedLaws.{key-same}
-use Rattle.midicsv.proofs.FieldLaws.{decimal-length, quote-length, data-length as fields-length}
-use Rattle.midicsv_write.specs.Line.{eventFrom, columnFields, columnCount, bodyFields, line, headerFor}
+use Rattle.midicsv.proofs.FieldLaws.{decimal-length, quote-length, gap-length, data-length as fields-length}
+use Rattle.midicsv.proofs.LineBoundLaws.{mode-shown}
+use Rattle.midicsv_write.specs.Line.{eventFrom, columnFields, columnCount, bodyFields, line, headerFor, headerStart}
 
 -- ---- fields in a row
 
-further-append : (xs ys : List Field) → further (xs ++ ys) ≡ further xs ++ further ys
+further-append : (w : Form) (xs ys : List Field) → further w (xs ++ ys) ≡ further w xs ++ further w ys
 unfolding further
-further-append [] ys = refl
-further-append (f ∷ xs) ys = ap (λ l. joined f ++ l) (further-append xs ys) ∙ sym (append-assoc (joined f) (further xs) (further ys))
+further-append w [] ys = refl
+further-append w (f ∷ xs) ys = ap (λ l. joined w f ++ l) (further-append w xs ys) ∙ sym (append-assoc (joined w f) (further w xs) (further w ys))
 
 -- the last field of a row
-pub last-field : {old new : List ℕ} {at next : ℕ} (f : Field) → Written old at (joined f) new next → Written old at (further (f ∷ [])) new next
+pub last-field : {old new : List ℕ} {at next : ℕ} (w : Form) (f : Field) → Written old at (joined w f) new next → Written old at (further w (f ∷ [])) new next
 unfolding further
-last-field {old} {new} {at} {next} f w = subst (λ z. Written old at z new next) (sym (append-nil (joined f))) w
+last-field {old} {new} {at} {next} w f x = subst (λ z. Written old at z new next) (sym (append-nil (joined w f))) x
 
-pub number-length : (n : ℕ) → length (joined (num n)) ≤ 12
+pub number-length : (w : Form) (n : ℕ) → length (joined w (num n)) ≤ 12
 unfolding show
-number-length n = omega (arith, decimal-length n)
+number-length w n = simp length-append (omega (arith, decimal-length n, gap-length w))
 
-pub three-length : (a b c : ℕ) → length (further (num a ∷ num b ∷ num c ∷ [])) ≤ 36
-unfolding further
-three-length a b c = simp length-append (omega (arith, number-length a, number-length b, number-length c))
+pub three-length : (w : Form) (a b c : ℕ) → length (further w (num a ∷ num b ∷ num c ∷ [])) ≤ 36
+unfolding further show
+three-length w a b c = simp length-append (omega (arith, decimal-length a, decimal-length b, decimal-length c, gap-length w))
 
-column-length : (c : Column) (n : ℕ) → length (show (columnField c n)) ≤ 11
-unfolding columnField show quote escapeAll escape inOctal pick
-column-length (range lo hi) n = omega (arith, decimal-length n)
-column-length key b = by-test (ltb b 8) (λ t. rw t (omega (arith, decimal-length b))) (λ t. rw t (omega (arith, decimal-length (256 - b))))
-column-length mode m = by-test (eqb m 0) (λ t. rw t (omega arith)) (λ t. rw t (omega arith))
-column-length freeType n = omega (arith, decimal-length n)
+column-length : (w : Form) (c : Column) (n : ℕ) → length (show w (columnField c n)) ≤ 11
+unfolding columnField show pick
+column-length w (range lo hi) n = omega (arith, decimal-length n)
+column-length w key b = by-test (ltb b 8) (λ t. rw t (omega (arith, decimal-length b))) (λ t. rw t (omega (arith, decimal-length (256 - b))))
+column-length w mode m = rw (mode-shown w m) (by-test (eqb m 0) (λ t. rw t (omega arith)) (λ t. rw t (omega arith)))
+column-length w freeType n = omega (arith, decimal-length n)
 
-pub key-length : (b : ℕ) → length (joined (columnField key b)) ≤ 13
-key-length b = omega (arith, column-length key b)
+pub key-length : (w : Form) (b : ℕ) → length (joined w (columnField key b)) ≤ 13
+key-length w b = simp length-append (omega (arith, column-length w key b, gap-length w))
 
 -- ---- a key's byte
 
-pub key-fields : (b m : ℕ) → b ≤ 255 → further (columnField key b ∷ columnField mode m ∷ []) ≡ further (columnFields (keySignature (keyOf b) m))
+pub key-fields : (w : Form) (b m : ℕ) → b ≤ 255 → further w (columnField key b ∷ columnField mode m ∷ []) ≡ further w (columnFields (keySignature (keyOf b) m))
 unfolding nameOf eventShape valuesOf fieldsOf tailFields
-key-fields b m h = ap (λ z. further (columnField key z ∷ columnField mode m ∷ [])) (sym (key-same b h))
+key-fields w b m h = ap (λ z. further w (columnField key z ∷ columnField mode m ∷ [])) (sym (key-same b h))
 
 -- ---- lines without an event
 
-pub start-line : (n : ℕ) → decimal n ++ bytes ", 0, Start_track\n" ≡ line (mark start-track n)
-unfolding recordsText recordLine lineOf further show spelled shape fieldsOf tailFields decimal digitsOf pick
-start-line n = sym (append-assoc (decimal n) (bytes ", 0, Start_track") (10 ∷ []))
+-- the bytes of lines that are written as they stand
+unfoldable pub startTail : Form → List ℕ
+startTail asText = bytes ", 0, Start_track\n"
+startTail asSheet = bytes ",0,Start_track\n"
 
-pub start-line-length : (n : ℕ) → length (line (mark start-track n)) ≤ 28
-start-line-length n = rw (← start-line n) (simp length-append (omega (arith, decimal-length n)))
+unfoldable pub endLine : Form → List ℕ
+endLine asText = bytes "0, 0, End_of_file\n"
+endLine asSheet = bytes "0,0,End_of_file\n"
 
-pub end-line : bytes "0, 0, End_of_file\n" ≡ line (mark end-of-file 0)
-unfolding recordsText recordLine lineOf further show spelled shape fieldsOf tailFields decimal digitsOf pick
-end-line = refl
+pub start-line : (w : Form) (n : ℕ) → decimal n ++ startTail w ≡ line w (mark start-track n)
+unfolding startTail gap recordsText recordLine lineOf further show spelled shape fieldsOf tailFields decimal digitsOf pick
+start-line asText n = sym (append-assoc (decimal n) (bytes ", 0, Start_track") (10 ∷ []))
+start-line asSheet n = sym (append-assoc (decimal n) (bytes ",0,Start_track") (10 ∷ []))
+
+tail-few : (w : Form) → length (startTail w) ≤ 18
+unfolding startTail
+tail-few asText = omega arith
+tail-few asSheet = omega arith
+
+pub start-line-length : (w : Form) (n : ℕ) → length (line w (mark start-track n)) ≤ 28
+start-line-length w n = rw (← start-line w n) (simp length-append (omega (arith, decimal-length n, tail-few w)))
+
+pub end-line : (w : Form) → endLine w ≡ line w (mark end-of-file 0)
+unfolding endLine gap recordsText recordLine lineOf further show spelled shape fieldsOf tailFields decimal digitsOf pick
+end-line asText = refl
+end-line asSheet = refl
 
 -- the columns of the Header
-pub header-line : (a b c : ℕ) → bytes "0, 0, Header" ++ (further (num a ∷ num b ∷ num c ∷ []) ++ (10 ∷ [])) ≡ line (headerFor a b c)
-unfolding recordsText recordLine lineOf further show spelled shape fieldsOf tailFields columnField decimal digitsOf pick
-header-line a b c = refl
+pub header-line : (w : Form) (a b c : ℕ) → headerStart w ++ (further w (num a ∷ num b ∷ num c ∷ []) ++ (10 ∷ [])) ≡ line w (headerFor a b c)
+unfolding headerStart gap recordsText recordLine lineOf further show spelled shape fieldsOf tailFields columnField decimal digitsOf pick
+header-line asText a b c = refl
+header-line asSheet a b c = refl
 
-pub header-line-length : (a b c : ℕ) → length (line (headerFor a b c)) ≤ 49
-header-line-length a b c = rw (← header-line a b c) (simp length-append (omega (arith, three-length a b c)))
+pub header-few : (w : Form) → length (headerStart w) ≤ 12
+unfolding headerStart
+header-few asText = omega arith
+header-few asSheet = omega arith
+
+pub header-line-length : (w : Form) (a b c : ℕ) → length (line w (headerFor a b c)) ≤ 49
+header-line-length w a b c = rw (← header-line w a b c) (simp length-append (omega (arith, three-length w a b c, header-few w)))
 
 -- ---- the row of an event: its data are in the Text, or the Data, alone
 
@@ -181,23 +204,23 @@ few unknown-meta = omega arith
 pub name-length : (k : Kind) → length (eventSpelled (nameOf k)) ≤ 23
 name-length k = few (nameOf k) .0
 
-row-length : (cs : List Column) (ns : List ℕ) → length (further (fieldsOf cs none ns [])) ≤ 13 * length cs
+row-length : (w : Form) (cs : List Column) (ns : List ℕ) → length (further w (fieldsOf cs none ns [])) ≤ 13 * length cs
 unfolding fieldsOf tailFields further
-row-length [] ns = omega arith
-row-length (c ∷ cs) [] = omega arith
-row-length (c ∷ cs) (n ∷ ns) = let h = row-length cs ns in simp length-append (omega (arith, column-length c n))
+row-length w [] ns = omega arith
+row-length w (c ∷ cs) [] = omega arith
+row-length w (c ∷ cs) (n ∷ ns) = let h = row-length w cs ns in simp length-append (omega (arith, column-length w c n, gap-length w))
 
-pub columns-length : (k : Kind) → length (further (columnFields k)) ≤ 65
-columns-length k = omega (arith, row-length (eventShape (nameOf k) .columns) (valuesOf k .columns), few (nameOf k) .1)
+pub columns-length : (w : Form) (k : Kind) → length (further w (columnFields k)) ≤ 65
+columns-length w k = omega (arith, row-length w (eventShape (nameOf k) .columns) (valuesOf k .columns), few (nameOf k) .1)
 
-tail-length : (t : Tail) (d : List ℕ) → length (further (tailFields t d)) ≤ 12 + 12 * length d
+tail-length : (w : Form) (t : Tail) (d : List ℕ) → length (further w (tailFields t d)) ≤ 12 + 12 * length d
 unfolding tailFields further show
-tail-length none d = omega arith
-tail-length oneText d = simp length-append (omega (arith, quote-length d))
-tail-length sized d = simp length-append (omega (arith, decimal-length (length d), fields-length d))
+tail-length w none d = omega arith
+tail-length w oneText d = simp length-append (omega (arith, quote-length w d, gap-length w))
+tail-length w sized d = simp length-append (omega (arith, decimal-length (length d), fields-length w d, gap-length w))
 
-pub body-length : (body : List ℕ) (k : EventKind) → length (further (bodyFields (kindFrom body k))) ≤ 12 + 12 * length body
-body-length body k = omega (arith, tail-length (eventShape (nameOf (kindFrom body k)) .tail) (valuesOf (kindFrom body k) .body), same-row body k .data-few)
+pub body-length : (w : Form) (body : List ℕ) (k : EventKind) → length (further w (bodyFields (kindFrom body k))) ≤ 12 + 12 * length body
+body-length w body k = omega (arith, tail-length w (eventShape (nameOf (kindFrom body k)) .tail) (valuesOf (kindFrom body k) .body), same-row body k .data-few)
 
 -- ---- the number of columns, and the kinds without Text or Data, by the tags of the code's enum
 
@@ -293,27 +316,27 @@ no-body body (UnknownMeta t a b) h = absurd (miss bodiless 19 tt h)
 -- ---- its line
 
 -- Track and Time, to where the name begins
-abbrev pub startOf : ℕ → ℕ → List ℕ
-startOf track time = decimal track ++ joined (num time) ++ (44 ∷ 32 ∷ [])
+abbrev pub startOf : Form → ℕ → ℕ → List ℕ
+startOf w track time = decimal track ++ joined w (num time) ++ gap w
 
-pub start-length : (track time : ℕ) → length (startOf track time) ≤ 24
-start-length track time =
-    simp length-append (omega (arith, decimal-length track, number-length time))
+pub start-length : (w : Form) (track time : ℕ) → length (startOf w track time) ≤ 24
+unfolding show
+start-length w track time = simp length-append (omega (arith, decimal-length track, decimal-length time, gap-length w))
 
 -- the same parts, grouped as they are written
-regroup : (a b n c d : List ℕ) → (a ++ b ++ (44 ∷ 32 ∷ [])) ++ (n ++ (c ++ (d ++ (10 ∷ [])))) ≡ (a ++ (b ++ (44 ∷ 32 ∷ (n ++ (c ++ d))))) ++ (10 ∷ [])
-regroup a b n c d = simp append-assoc
+regroup : (a b g n c d : List ℕ) → (a ++ b ++ g) ++ (n ++ (c ++ (d ++ (10 ∷ [])))) ≡ (a ++ (b ++ ((g ++ n) ++ (c ++ d)))) ++ (10 ∷ [])
+regroup a b g n c d = simp append-assoc
 
-whole-line : (track : ℕ) (e : Event) → startOf track (e .time) ++ (eventSpelled (nameOf (e .kind)) ++ (further (columnFields (e .kind)) ++ (further (bodyFields (e .kind)) ++ (10 ∷ []))))
-    ≡ line (eventRecord track e)
+whole-line : (w : Form) (track : ℕ) (e : Event) → startOf w track (e .time) ++ (eventSpelled (nameOf (e .kind)) ++ (further w (columnFields (e .kind)) ++ (further w (bodyFields (e .kind)) ++ (10 ∷ []))))
+    ≡ line w (eventRecord track e)
 unfolding recordsText recordLine lineOf further show spelled shape eventRecord
-whole-line track e =
+whole-line w track e =
     let k = e .kind in
-    let same = ap further (row-fields k) ∙ further-append (columnFields k) (bodyFields k) in
-    regroup (decimal track) (joined (num (e .time))) (eventSpelled (nameOf k)) (further (columnFields k)) (further (bodyFields k))
-    ∙ ap (λ z. (decimal track ++ (joined (num (e .time)) ++ (44 ∷ 32 ∷ (eventSpelled (nameOf k) ++ z)))) ++ (10 ∷ [])) (sym same)
+    let same = ap (further w) (row-fields k) ∙ further-append w (columnFields k) (bodyFields k) in
+    regroup (decimal track) (joined w (num (e .time))) (gap w) (eventSpelled (nameOf k)) (further w (columnFields k)) (further w (bodyFields k))
+    ∙ ap (λ z. (decimal track ++ (joined w (num (e .time)) ++ ((gap w ++ eventSpelled (nameOf k)) ++ z))) ++ (10 ∷ [])) (sym same)
 
-pub event-line : (track : ℕ) (t : Time) (body : List ℕ) (k : EventKind)
-    → startOf track (t .0) ++ (eventSpelled (nameOf (kindFrom [] k)) ++ (further (columnFields (kindFrom [] k)) ++ (further (bodyFields (kindFrom body k)) ++ (10 ∷ []))))
-    ≡ line (eventRecord track (eventFrom t body k))
-event-line track t body k = rw (same-row body k .columns, same-row body k .names) (whole-line track (eventFrom t body k))
+pub event-line : (w : Form) (track : ℕ) (t : Time) (body : List ℕ) (k : EventKind)
+    → startOf w track (t .0) ++ (eventSpelled (nameOf (kindFrom [] k)) ++ (further w (columnFields (kindFrom [] k)) ++ (further w (bodyFields (kindFrom body k)) ++ (10 ∷ []))))
+    ≡ line w (eventRecord track (eventFrom t body k))
+event-line w track t body k = rw (same-row body k .columns, same-row body k .names) (whole-line w track (eventFrom t body k))

@@ -22,89 +22,92 @@ use Rattle.smf.proofs.ListLaws.{R, none-left, Accepted}
 use Rattle.smf.proofs.CameLaws.{Came}
 use Rattle.smf.proofs.TurnLaws.{A, events-laid, TrackTurn, tracks-laid}
 use Rattle.smf.proofs.AcceptedLaws.{headed}
+use Rattle.midicsv.specs.Show.{Form}
 use Rattle.midicsv.specs.Table.{start-track, end-of-file}
 use Rattle.midicsv.specs.Record.{Record, recordLine}
-use Rattle.midicsv.specs.Text.{mark, eventRecord, eventRecords, trackRecords, headerRecord, pieceRecords, recordsText, textOf}
-use Rattle.midicsv.proofs.BoundLaws.{texts-append, events-bound, tracks-bound}
+use Rattle.midicsv.specs.Text.{mark, eventRecord, eventRecords, trackRecords, headerRecord, pieceRecords, recordsText, writtenAs, most}
+use Rattle.midicsv.proofs.BoundLaws.{more-bound, texts-append, events-bound, tracks-bound}
 use Rattle.midicsv_write.specs.Line.{eventFrom, line, headerFor}
 
-lines-cons : (r : Record) (rs : List Record) → recordsText (r ∷ rs) ≡ line r ++ recordsText rs
+lines-cons : (w : Form) (r : Record) (rs : List Record) → recordsText w (r ∷ rs) ≡ line w r ++ recordsText w rs
 unfolding recordsText
-lines-cons r rs = sym (append-assoc (recordLine r) (10 ∷ []) (recordsText rs))
+lines-cons w r rs = sym (append-assoc (recordLine w r) (10 ∷ []) (recordsText w rs))
 
 -- ---- the loop over a track's events: the body's bytes from the place at on
 
-abbrev pub EventsLeft : ℕ → List ℕ → ℕ → ℕ → ℕ → List ℕ
-EventsLeft track s at t f = recordsText (eventRecords track (valueOr [] (A s at t f)))
+abbrev pub EventsLeft : Form → ℕ → List ℕ → ℕ → ℕ → ℕ → List ℕ
+EventsLeft w track s at t f = recordsText w (eventRecords track (valueOr [] (A s at t f)))
 
-module _ (track : ℕ) {s : List ℕ} {at t f : ℕ} {u : Time} {k : EventKind} {q st : ℕ} (c : Came s at t f u k q st) where
+module _ (w : Form) (track : ℕ) {s : List ℕ} {at t f : ℕ} {u : Time} {k : EventKind} {q st : ℕ} (c : Came s at t f u k q st) where
   same-event : c .event ≡ eventFrom u s k
   same-event = ap₂ (λ x y. record { time = x; kind = y }) (c .time) (sym (c .there))
 
   pub next-line : valueOr [] (A s at t f) ≡ c .event ∷ valueOr [] (A s q (u .0) st)
-      → EventsLeft track s at t f ≡ line (eventRecord track (eventFrom u s k)) ++ EventsLeft track s q (u .0) st
+      → EventsLeft w track s at t f ≡ line w (eventRecord track (eventFrom u s k)) ++ EventsLeft w track s q (u .0) st
   unfolding eventRecords
   next-line all =
-      ap (λ z. recordsText (eventRecords track z)) all
-      ∙ lines-cons (eventRecord track (c .event)) _
-      ∙ ap (λ e. line (eventRecord track e) ++ EventsLeft track s q (u .0) st) same-event
+      ap (λ z. recordsText w (eventRecords track z)) all
+      ∙ lines-cons w (eventRecord track (c .event)) _
+      ∙ ap (λ e. line w (eventRecord track e) ++ EventsLeft w track s q (u .0) st) same-event
 
-  pub last-line : valueOr [] (A s at t f) ≡ c .event ∷ [] → EventsLeft track s at t f ≡ line (eventRecord track (eventFrom u s k))
+  pub last-line : valueOr [] (A s at t f) ≡ c .event ∷ [] → EventsLeft w track s at t f ≡ line w (eventRecord track (eventFrom u s k))
   unfolding eventRecords
-  last-line all = ap (λ z. recordsText (eventRecords track z)) all ∙ ap (λ e. line (eventRecord track e)) same-event
+  last-line all = ap (λ z. recordsText w (eventRecords track z)) all ∙ ap (λ e. line w (eventRecord track e)) same-event
 
-pub events-few : (track : ℕ) (s : List ℕ) (at t f : ℕ) → track ≤ 65535 → Bytes s → Readable (A s at t f) → length (EventsLeft track s at t f) ≤ 25 * length (drop at s)
-events-few track s at t f h bs g =
+pub events-few : (w : Form) (track : ℕ) (s : List ℕ) (at t f : ℕ) → track ≤ 65535 → Bytes s → Readable (A s at t f) → length (EventsLeft w track s at t f) ≤ most w (length (drop at s))
+events-few w track s at t f h bs g =
     let laid = events-laid s at t f bs g in
-    omega (arith, ap length (laid .bytes), events-bound track t f (valueOr [] (A s at t f)) (laid .spelling) h (laid .lawful) (laid .permitted))
+    let all = events-bound w track t f (valueOr [] (A s at t f)) (laid .spelling) h (laid .lawful) (laid .permitted) in
+    more-bound w all (omega (arith, ap length (laid .bytes)))
 
 -- ---- the loop over the tracks: so many from the place at on, the first of them numbered n
 
-abbrev pub TracksLeft : ℕ → List ℕ → ℕ → ℕ → List ℕ
-TracksLeft n s left at = recordsText (trackRecords n (valueOr [] (R s left at)))
+abbrev pub TracksLeft : Form → ℕ → List ℕ → ℕ → ℕ → List ℕ
+TracksLeft w n s left at = recordsText w (trackRecords n (valueOr [] (R s left at)))
 
-pub track-left : (n : ℕ) (s : List ℕ) (left m at a b : ℕ) → TrackTurn s left m at a b
-    → TracksLeft n s left at ≡ recordsText (mark start-track n ∷ eventRecords n (valueOr [] (readAll 0 0 0 (take (b - a) (drop a s))))) ++ TracksLeft (n + 1) s m b
+pub track-left : (w : Form) (n : ℕ) (s : List ℕ) (left m at a b : ℕ) → TrackTurn s left m at a b
+    → TracksLeft w n s left at ≡ recordsText w (mark start-track n ∷ eventRecords n (valueOr [] (readAll 0 0 0 (take (b - a) (drop a s))))) ++ TracksLeft w (n + 1) s m b
 unfolding trackRecords
-track-left n s left m at a b turn =
-    rw (add-one n) (ap (λ z. recordsText (trackRecords n z)) (turn .all)
-    ∙ texts-append (mark start-track n ∷ eventRecords n (valueOr [] (readAll 0 0 0 (take (b - a) (drop a s))))) (trackRecords (suc n) (valueOr [] (R s m b))))
+track-left w n s left m at a b turn =
+    rw (add-one n) (ap (λ z. recordsText w (trackRecords n z)) (turn .all)
+    ∙ texts-append w (mark start-track n ∷ eventRecords n (valueOr [] (readAll 0 0 0 (take (b - a) (drop a s))))) (trackRecords (suc n) (valueOr [] (R s m b))))
 
-pub no-tracks-left : (n : ℕ) (s : List ℕ) (left at : ℕ) → left ≤ 0 → TracksLeft n s left at ≡ []
+pub no-tracks-left : (w : Form) (n : ℕ) (s : List ℕ) (left at : ℕ) → left ≤ 0 → TracksLeft w n s left at ≡ []
 unfolding trackRecords recordsText
-no-tracks-left n s left at h = ap (λ z. recordsText (trackRecords n z)) (none-left s left at h)
+no-tracks-left w n s left at h = ap (λ z. recordsText w (trackRecords n z)) (none-left s left at h)
 
-pub tracks-few : (n : ℕ) (s : List ℕ) (left at : ℕ) → n + left ≤ 65536 → Bytes s → Readable (R s left at) → length (TracksLeft n s left at) ≤ 25 * length (drop at s)
-tracks-few n s left at h bs g =
+pub tracks-few : (w : Form) (n : ℕ) (s : List ℕ) (left at : ℕ) → n + left ≤ 65536 → Bytes s → Readable (R s left at) → length (TracksLeft w n s left at) ≤ most w (length (drop at s))
+tracks-few w n s left at h bs g =
     let (r, laid) = tracks-laid s left at bs g in
     let ts : List (List Event) = valueOr [] (R s left at) in
-    omega (arith, ap length (laid .bytes), length-append (layTracks ts (laid .spelling)) r, tracks-bound n ts (laid .spelling) (omega (arith, laid .count)) (laid .lawful) (laid .permitted))
+    let all = tracks-bound w n ts (laid .spelling) (omega (arith, laid .count)) (laid .lawful) (laid .permitted) in
+    more-bound w all (omega (arith, ap length (laid .bytes), length-append (layTracks ts (laid .spelling)) r))
 
 -- before the track so numbered, with left tracks to come
-pub record TracksGoing (s : List ℕ) (count first from : ℕ) (old out : List ℕ) (next at track : ℕ) : Type 0 where
+pub record TracksGoing (w : Form) (s : List ℕ) (count first from : ℕ) (old out : List ℕ) (next at track : ℕ) : Type 0 where
   pub left : ℕ
   pub numbered : left + track ≡ suc count
   pub inside : at ≤ length s
   pub readable : Readable (R s left at)
-  pub remains : Remains old from (TracksLeft 1 s count first) out next (TracksLeft track s left at)
+  pub remains : Remains old from (TracksLeft w 1 s count first) out next (TracksLeft w track s left at)
 
 -- Start_track and the events
-pub track-lines : (n : ℕ) (es : List Event) → recordsText (mark start-track n ∷ eventRecords n es) ≡ line (mark start-track n) ++ recordsText (eventRecords n es)
-track-lines n es = lines-cons (mark start-track n) (eventRecords n es)
+pub track-lines : (w : Form) (n : ℕ) (es : List Event) → recordsText w (mark start-track n ∷ eventRecords n es) ≡ line w (mark start-track n) ++ recordsText w (eventRecords n es)
+track-lines w n es = lines-cons w (mark start-track n) (eventRecords n es)
 
 -- ---- the text of the file's piece, as the code writes it
 
-pub text-lines : (s : List ℕ) (a b : ℕ) (d : Division) (n : ℕ) → Bytes s → headerStep (length s) (readHeader s) ≡ Fields a b d n → Accepted s b n
-    → textOf (pieceRead s) ≡ line (headerFor a b (d .0)) ++ (TracksLeft 1 s b n ++ line (mark end-of-file 0))
-unfolding textOf pieceRecords headerRecord valueOr
-text-lines s a b d n bs e there =
+pub text-lines : (w : Form) (s : List ℕ) (a b : ℕ) (d : Division) (n : ℕ) → Bytes s → headerStep (length s) (readHeader s) ≡ Fields a b d n → Accepted s b n
+    → writtenAs w (pieceRead s) ≡ line w (headerFor a b (d .0)) ++ (TracksLeft w 1 s b n ++ line w (mark end-of-file 0))
+unfolding writtenAs pieceRecords headerRecord valueOr
+text-lines w s a b d n bs e there =
     let p = there .piece in
     let head = headed s a b d n bs e there in
     let same : headerRecord p ≡ headerFor a b (d .0) = ap₂ (λ x y. headerFor x y (p .division .pulses)) (head .format) (there .count) ∙ ap (λ x. headerFor a b (x .pulses)) (head .division) in
-    let tracks : recordsText (trackRecords 1 (p .tracks)) ≡ TracksLeft 1 s b n = ap (λ z. recordsText (trackRecords 1 (valueOr [] z))) (sym (there .tracks)) in
-    ap textOf (head .same)
-    ∙ lines-cons (headerRecord p) _
-    ∙ ap₂ (λ x y. line x ++ y) same (texts-append (trackRecords 1 (p .tracks)) (mark end-of-file 0 ∷ []) ∙ ap (λ z. z ++ line (mark end-of-file 0)) tracks)
+    let tracks : recordsText w (trackRecords 1 (p .tracks)) ≡ TracksLeft w 1 s b n = ap (λ z. recordsText w (trackRecords 1 (valueOr [] z))) (sym (there .tracks)) in
+    ap (writtenAs w) (head .same)
+    ∙ lines-cons w (headerRecord p) _
+    ∙ ap₂ (λ x y. line w x ++ y) same (texts-append w (trackRecords 1 (p .tracks)) (mark end-of-file 0 ∷ []) ∙ ap (λ z. z ++ line w (mark end-of-file 0)) tracks)
 
 pub tracks-counted : (s : List ℕ) (b n : ℕ) → Bytes s → Accepted s b n → b ≤ 65535
 tracks-counted s b n bs there =

@@ -6,7 +6,8 @@ use Rattle.event.specs.Event.{Event, Kind}
 use Rattle.event.specs.Step.{kindFrom}
 use Rattle.event.specs.declared.Time.{Time}
 use Rattle.event.specs.declared.EventKind.{EventKind}
-use Rattle.midicsv.specs.Field.{Field}
+use Rattle.midicsv.specs.Field.{bytes, Field}
+use Rattle.midicsv.specs.Show.{Form, asText, asSheet}
 use Rattle.midicsv.specs.Table.{header, none, eventShape}
 use Rattle.midicsv.specs.Record.{Record, tailFields, fieldsOf, nameOf, plain, valuesOf}
 use Rattle.midicsv.specs.Text.{recordsText}
@@ -28,9 +29,14 @@ abbrev pub columnCount : EventKind → ℕ
 columnCount k = length (columnFields (kindFrom [] k))
 
 -- a record's line with its LF
-abbrev pub line : Record → List ℕ
-line r = recordsText (r ∷ [])
+abbrev pub line : Form → Record → List ℕ
+line w r = recordsText w (r ∷ [])
 
 -- "`0, 0, Header, format, tracks, division`"
 abbrev pub headerFor : ℕ → ℕ → ℕ → Record
 headerFor format count pulses = record { track = 0; time = 0; name = header; values = plain (format ∷ count ∷ pulses ∷ []) }
+
+-- the Header's line up to its numbers
+unfoldable pub headerStart : Form → List ℕ
+headerStart asText = bytes "0, 0, Header"
+headerStart asSheet = bytes "0,0,Header"

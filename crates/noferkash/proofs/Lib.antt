@@ -1,3 +1,4 @@
 pub mod PackedLaws
 pub mod Demand2
 pub mod FoldCalls
+pub mod SheetCalls

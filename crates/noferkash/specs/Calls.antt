@@ -6,7 +6,9 @@ use lib.ListN.{length}
 use Rattle.smf.specs.Reader.{readFile}
 use Rattle.smf.specs.Answer.{verdict}
 use Rattle.midicsv_read.specs.ToFile.{fileAnswer, fileLeaves}
-use Rattle.midicsv_write.specs.ToText.{textAnswer, textLeaves}
+use Rattle.midicsv.specs.Show.{asText, asSheet}
+use Rattle.midicsv_write.specs.ToText.{writtenAnswer, writtenLeaves}
+use Rattle.sheet_table.specs.TableAnswer.{tableAnswer, tableLeaves}
 use Rattle.smf.specs.Writing.{shortAnswer, shortLeaves}
 use Rattle.fold_piece.specs.FoldAnswer.{mostTracks, foldAnswer, foldLeaves}
 use Rattle.noferkash.specs.Packed.{packed}
@@ -17,7 +19,7 @@ CheckCall f r = r ≡ packed (verdict (readFile f))
 
 -- noferkash_file_to_text on the file f
 abbrev pub TextCall : List ℕ → List ℕ → ℕ → List ℕ → Type 0
-TextCall f old r new = (r ≡ packed (textAnswer (length old) (readFile f))) × (new ≡ textLeaves (readFile f) old)
+TextCall f old r new = (r ≡ packed (writtenAnswer asText (length old) (readFile f))) × (new ≡ writtenLeaves asText (readFile f) old)
 
 -- noferkash_text_to_file on the text s in the manner
 abbrev pub FileCall : List ℕ → ℕ → List ℕ → ℕ → List ℕ → Type 0
@@ -30,3 +32,11 @@ TidyCall f old r new = (r ≡ packed (shortAnswer (length old) (readFile f))) ×
 -- noferkash_fold on the file f: it has a row of its own for each of the most tracks
 abbrev pub FoldCall : List ℕ → List ℕ → ℕ → List ℕ → Type 0
 FoldCall f old r new = (r ≡ packed (foldAnswer (length old) mostTracks f)) × (new ≡ foldLeaves mostTracks f old)
+
+-- noferkash_file_to_sheet on the file f
+abbrev pub SheetCall : List ℕ → List ℕ → ℕ → List ℕ → Type 0
+SheetCall f old r new = (r ≡ packed (writtenAnswer asSheet (length old) (readFile f))) × (new ≡ writtenLeaves asSheet (readFile f) old)
+
+-- noferkash_sheet_to_text on the saved table s
+abbrev pub TableCall : List ℕ → List ℕ → ℕ → List ℕ → Type 0
+TableCall s old r new = (r ≡ packed (tableAnswer (length old) s)) × (new ≡ tableLeaves s old)

@@ -3,7 +3,7 @@ ghost use mathlib.Core.Path.{_≡_};
 ghost use Prim.Native.Nat.{_<_};
 ghost use Rattle.smf.specs.Demand3.{Demand3};
 ghost use Rattle.noferkash.specs.Packed.{packed, numberOf};
-ghost use Rattle.noferkash.specs.Calls.{CheckCall, TextCall, FileCall, TidyCall, FoldCall};
+ghost use Rattle.noferkash.specs.Calls.{CheckCall, TextCall, FileCall, TidyCall, FoldCall, SheetCall, TableCall};
 
 // The answer as one number of 64 bits.
 fn pack(a: smf::Answer) -> u64
@@ -52,4 +52,18 @@ pub extern "C" fn noferkash_fold(file: &[u8], out: &mut [u8]) -> u64
     let mut times = [0u32; 64];
     let mut statuses = [0u8; 64];
     pack(fold::fold(file, out, &mut places, &mut times, &mut statuses))
+}
+
+#[no_mangle]
+pub extern "C" fn noferkash_file_to_sheet(file: &[u8], out: &mut [u8]) -> u64
+    ensures { λ r. ⌜ SheetCall (now (file .entry)) (now (out .entry)) r (now (out .exit)) ⌝ }
+{
+    pack(midicsv_write::to_text::file_to_sheet(file, out))
+}
+
+#[no_mangle]
+pub extern "C" fn noferkash_sheet_to_text(saved: &[u8], out: &mut [u8]) -> u64
+    ensures { λ r. ⌜ TableCall (now (saved .entry)) (now (out .entry)) r (now (out .exit)) ⌝ }
+{
+    pack(sheet::table::sheet_to_text(saved, out))
 }

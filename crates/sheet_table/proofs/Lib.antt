@@ -17,3 +17,4 @@ pub mod TableEndsLaws
 pub mod TableLinesLaws
 pub mod TableReadings
 pub mod WaysReadings
+pub mod TableAnswerLaws

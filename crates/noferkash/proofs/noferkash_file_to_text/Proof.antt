@@ -1,6 +1,7 @@
 use mathlib.Core.Path.{_∙_, ap}
 use lib.ListN.{length}
 use Rattle.event.proofs.BytesLaws.{bytes-of}
+use Rattle.midicsv.specs.Show.{asText}
 use Rattle.midicsv_write.proofs.AnswerLaws.{answer-fits}
 use Rattle.noferkash.specs.Packed.{packed}
 use Rattle.noferkash.proofs.PackedLaws.{small}
@@ -15,7 +16,7 @@ file-to-text-requires c κs = search needs
 pack-requires : tie.Need-pack-requires
 pack-requires c κs = let a = c .before .before .before .before .before .before .args in
     let bytes = bytes-of (a .file .now) (λ i. omega (arith, c .before .before .before .before .before .shared-slice-known .given i)) in
-    small _ _ (c .before .before .file-to-text .ensures .0) (answer-fits (length (a .out .now)) (a .file .now) bytes)
+    small _ _ (c .before .before .file-to-text .ensures .0) (answer-fits asText (length (a .out .now)) (a .file .now) bytes)
 
 same-length : tie.Need-same-length
 same-length c = search needs

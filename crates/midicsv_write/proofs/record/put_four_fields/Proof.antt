@@ -1,3 +1,4 @@
+use Rattle.midicsv.specs.Code.Form.{formOf}
 use Rattle.event_write.proofs.WriteLaws.{then}
 use Rattle.midicsv.specs.Show.{further}
 use Rattle.midicsv_write.proofs.LineLaws.{number-length}
@@ -10,7 +11,7 @@ put-number-field-requires : tie.Need-put-number-field-requires
 put-number-field-requires c κs = search needs
 
 put-three-fields-requires : tie.Need-put-three-fields-requires
-put-three-fields-requires c κs = omega (arith, c .before .before .before .put-number-field .ensures .place, number-length (c .before .before .before .before .before .before .args .a), c .before .before .before .before .before .before .pre)
+put-three-fields-requires c κs = omega (arith, c .before .before .before .put-number-field .ensures .place, number-length (formOf (c .before .before .before .before .before .before .args .sheet)) (c .before .before .before .before .before .before .args .a), c .before .before .before .before .before .before .pre)
 
 same-length : tie.Need-same-length
 same-length c = search needs

@@ -1,3 +1,4 @@
+use Rattle.midicsv.specs.Code.Form.{formOf}
 use Rattle.event_write.proofs.WriteLaws.{then}
 use Rattle.midicsv_write.proofs.LineLaws.{header-line, three-length}
 use native.Mathlib.Omega.{arith}
@@ -15,14 +16,14 @@ put-three-fields-requires : tie.Need-put-three-fields-requires
 put-three-fields-requires c κs = search needs
 
 put-byte-requires : tie.Need-put-byte-requires
-put-byte-requires c κs = let a = c .before .before .before .before .before .before .before .before .before .before .before .args in omega (arith, c .before .before .before .put-three-fields .ensures .place, c .before .before .before .before .before .before .before .put-bytes .ensures .place, three-length (a .format) (a .count) (a .pulses))
+put-byte-requires c κs = let a = c .before .before .before .before .before .before .before .before .before .before .before .args in omega (arith, c .before .before .before .put-three-fields .ensures .place, c .before .before .before .before .before .before .before .put-bytes .ensures .place, three-length (formOf (a .sheet)) (a .format) (a .count) (a .pulses))
 
 same-length : tie.Need-same-length
 same-length c = search needs
 
 returns : tie.Need-returns
 returns c = let a = c .before .before .before .before .before .before .before .before .before .before .before .before .before .before .args in
-    rw (header-line (a .format) (a .count) (a .pulses)) at (then (c .before .before .before .before .before .before .before .before .before .before .put-bytes .ensures) (then (c .before .before .before .before .before .before .put-three-fields .ensures) (c .before .before .put-byte .ensures)))
+    rw (header-line (formOf (a .sheet)) (a .format) (a .count) (a .pulses)) at (then (c .before .before .before .before .before .before .before .before .before .before .put-bytes .ensures) (then (c .before .before .before .before .before .before .put-three-fields .ensures) (c .before .before .put-byte .ensures)))
 
 pub put-header-line-spec : {M : Type 1} → statement M
 put-header-line-spec =

@@ -1,3 +1,4 @@
+use Rattle.midicsv.specs.Code.Form.{formOf}
 use Rattle.event_write.proofs.WriteLaws.{then}
 use Rattle.midicsv.proofs.FieldLaws.{decimal-length}
 use Rattle.midicsv_write.proofs.LineLaws.{number-length}
@@ -17,7 +18,7 @@ slice-aggregate-put-bytes c = search needs
 
 put-bytes-requires : tie.Need-put-bytes-requires
 put-bytes-requires c κs = let a = c .before .before .before .before .before .before .before .before .before .before .before .args in
-    omega (arith, c .before .before .before .before .put-number-field .ensures .place, c .before .before .before .before .before .before .before .before .put-decimal .ensures .place, number-length (a .time), decimal-length (a .track), c .before .before .before .before .before .before .before .before .before .before .before .pre)
+    omega (arith, c .before .before .before .before .put-number-field .ensures .place, c .before .before .before .before .before .before .before .before .put-decimal .ensures .place, number-length (formOf (a .sheet)) (a .time), decimal-length (a .track), c .before .before .before .before .before .before .before .before .before .before .before .pre)
 
 same-length : tie.Need-same-length
 same-length c = search needs

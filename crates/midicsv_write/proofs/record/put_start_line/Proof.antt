@@ -1,3 +1,4 @@
+use Rattle.midicsv.specs.Code.Form.{formOf}
 use Rattle.event_write.proofs.WriteLaws.{then}
 use Rattle.midicsv.proofs.FieldLaws.{decimal-length}
 use Rattle.midicsv_write.proofs.LineLaws.{start-line}
@@ -19,7 +20,7 @@ same-length : tie.Need-same-length
 same-length c = search needs
 
 returns : tie.Need-returns
-returns c = rw (start-line (c .before .before .before .before .before .before .before .before .before .before .args .track)) at (then (c .before .before .before .before .before .before .before .put-decimal .ensures) (c .before .before .put-bytes .ensures))
+returns c = rw (start-line (formOf (c .before .before .before .before .before .before .before .before .before .before .args .sheet)) (c .before .before .before .before .before .before .before .before .before .before .args .track)) at (then (c .before .before .before .before .before .before .before .put-decimal .ensures) (c .before .before .put-bytes .ensures))
 
 pub put-start-line-spec : {M : Type 1} → statement M
 put-start-line-spec =

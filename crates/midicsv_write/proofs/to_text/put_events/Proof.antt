@@ -1,3 +1,4 @@
+use Rattle.midicsv.specs.Code.Form.{formOf}
 use Prim.Native.Nat.{_-_, _≤_}
 use lib.ListN.{length}
 use Rattle.event.specs.Outcome.{Readable}
@@ -48,7 +49,7 @@ put-event-line-requires c κs =
     let l = c .before .before .before .before .before .loop in
     let bytes = bytes-of s (λ i. omega (arith, c .before .before .before .before .before .before .shared-slice-known .given i)) in
     let p = c .before .before .before .before .before .before .before .before .pre in
-    (omega (arith, l .inv .3 .place, events-few (a .track) s 0 0 0 (p .1 .1 .0) bytes (p .1 .1 .1), p .0, p .1 .0), p .1 .0)
+    (omega (arith, l .inv .3 .place, events-few (formOf (a .sheet)) (a .track) s 0 0 0 (p .1 .1 .0) bytes (p .1 .1 .1), p .0, p .1 .0), p .1 .0)
 
 is-end-requires : tie.Need-is-end-requires Inv-loop μ-loop
 is-end-requires c κs = search needs
@@ -64,7 +65,7 @@ returns-2 c =
     let bytes = bytes-of s (λ i. omega (arith, c .before .before .before .before .before .before .before .before .before .before .before .shared-slice-known .given i)) in
     let e = event-came s (l .at) (l .time .0) (l .status) bytes (l .inv .0) (c .before .before .before .before .before .before .before .before .before .read-event .ensures) (c .before .before .before .before .before .before .before .t .given .1) in
     let all = turn-end bytes e (l .inv .2) (sym (c .before .is-end .ensures) ∙ c .if1 .taken) in
-    finish _ _ (l .inv .3) (last-line (a .track) e all) (c .before .before .before .before .put-event-line .ensures)
+    finish _ _ (l .inv .3) (last-line (formOf (a .sheet)) (a .track) e all) (c .before .before .before .before .put-event-line .ensures)
 
 loop-less : tie.Need-loop-less Inv-loop μ-loop
 loop-less c =
@@ -83,7 +84,7 @@ loop-again c =
     let bytes = bytes-of s (λ i. omega (arith, c .before .before .before .before .before .before .before .before .before .before .before .shared-slice-known .given i)) in
     let e = event-came s (l .at) (l .time .0) (l .status) bytes (l .inv .0) (c .before .before .before .before .before .before .before .before .before .read-event .ensures) (c .before .before .before .before .before .before .before .t .given .1) in
     let n = turn-next bytes e (l .inv .2) (sym (c .before .is-end .ensures) ∙ c .if1 .left) in
-    (e .inside, c .before .before .before .before .put-event-line .kept .0 ∙ l .inv .1, n .0, go-on _ _ _ (l .inv .3) (next-line (a .track) e (n .1)) (c .before .before .before .before .put-event-line .ensures))
+    (e .inside, c .before .before .before .before .put-event-line .kept .0 ∙ l .inv .1, n .0, go-on _ _ _ (l .inv .3) (next-line (formOf (a .sheet)) (a .track) e (n .1)) (c .before .before .before .before .put-event-line .ensures))
 
 pub put-events-spec : {M : Type 1} → statement M
 put-events-spec =
