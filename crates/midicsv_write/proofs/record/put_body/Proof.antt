@@ -1,3 +1,4 @@
+use Rattle.midicsv.specs.Code.Form.{formOf}
 use Rattle.event_write.proofs.WriteLaws.{nothing}
 use Rattle.event.specs.Step.{kindFrom}
 use Rattle.event_write.proofs.DataLaws.{data-length}
@@ -61,7 +62,7 @@ same-length c = search needs
 
 returns : tie.Need-returns
 unfolding kindFrom nameOf eventShape valuesOf tailFields
-returns c = rw (c .before .before .before .before .before .before .kind .given .1) (last-field (quoted _) (rw (c .before .before .before .event-data .ensures) at (c .before .before .put-text-field .ensures)))
+returns c = rw (c .before .before .before .before .before .before .kind .given .1) (last-field (formOf (c .before .before .before .before .before .before .before .before .before .before .args .sheet)) (quoted _) (rw (c .before .before .before .event-data .ensures) at (c .before .before .put-text-field .ensures)))
 
 same-length-2 : tie.Need-same-length-2
 same-length-2 c = search needs

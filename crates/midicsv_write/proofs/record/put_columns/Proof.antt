@@ -1,3 +1,4 @@
+use Rattle.midicsv.specs.Code.Form.{formOf}
 use Rattle.event_write.proofs.WriteLaws.{then}
 use Rattle.event.specs.Step.{kindFrom}
 use Rattle.midicsv.specs.Show.{further}
@@ -31,7 +32,7 @@ cast-put-four-fields-4 : tie.Need-cast-put-four-fields-4
 cast-put-four-fields-4 c = search needs
 
 put-four-fields-requires : tie.Need-put-four-fields-requires
-put-four-fields-requires c κs = omega (arith, c .before .before .before .put-number-field .ensures .place, number-length (c .before .before .before .before .before .before .kind .given .0 .0), c .before .before .before .before .before .before .before .before .before .pre)
+put-four-fields-requires c κs = omega (arith, c .before .before .before .put-number-field .ensures .place, number-length (formOf (c .before .before .before .before .before .before .before .before .before .args .sheet)) (c .before .before .before .before .before .before .kind .given .0 .0), c .before .before .before .before .before .before .before .before .before .pre)
 
 enum-known-kind-2 : tie.Need-enum-known-kind-2
 enum-known-kind-2 c = search needs

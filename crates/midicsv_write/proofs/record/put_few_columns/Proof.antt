@@ -1,3 +1,4 @@
+use Rattle.midicsv.specs.Code.Form.{formOf}
 use Rattle.event_write.proofs.WriteLaws.{then, nothing}
 use Rattle.event.specs.Step.{kindFrom}
 use Rattle.midicsv.specs.Field.{num}
@@ -83,7 +84,7 @@ put-key-field-requires : tie.Need-put-key-field-requires
 put-key-field-requires c κs = search needs
 
 put-mode-field-requires : tie.Need-put-mode-field-requires
-put-mode-field-requires c κs = omega (arith, c .before .before .before .put-key-field .ensures .place, key-length (c .before .before .before .before .before .before .kind8 .given .0 .0), c .before .before .before .before .before .before .before .before .before .pre .0)
+put-mode-field-requires c κs = omega (arith, c .before .before .before .put-key-field .ensures .place, key-length (formOf (c .before .before .before .before .before .before .before .before .before .args .sheet)) (c .before .before .before .before .before .before .kind8 .given .0 .0), c .before .before .before .before .before .before .before .before .before .pre .0)
 
 enum-known-kind-9 : tie.Need-enum-known-kind-9
 enum-known-kind-9 c = search needs
@@ -120,28 +121,28 @@ same-length-4 c = search needs
 
 returns-4 : tie.Need-returns-4
 unfolding kindFrom nameOf eventShape valuesOf fieldsOf columnField tailFields further
-returns-4 c = rw (c .before .before .before .before .before .kind4 .given .1) (last-field (num (c .before .before .before .before .before .kind4 .given .0 .0)) (c .before .before .put-number-field .ensures))
+returns-4 c = rw (c .before .before .before .before .before .kind4 .given .1) (last-field (formOf (c .before .before .before .before .before .before .before .before .args .sheet)) (num (c .before .before .before .before .before .kind4 .given .0 .0)) (c .before .before .put-number-field .ensures))
 
 same-length-5 : tie.Need-same-length-5
 same-length-5 c = search needs
 
 returns-5 : tie.Need-returns-5
 unfolding kindFrom nameOf eventShape valuesOf fieldsOf columnField tailFields further
-returns-5 c = rw (c .before .before .before .before .before .kind5 .given .1) (last-field (num (c .before .before .before .before .before .kind5 .given .0 .0)) (c .before .before .put-number-field2 .ensures))
+returns-5 c = rw (c .before .before .before .before .before .kind5 .given .1) (last-field (formOf (c .before .before .before .before .before .before .before .before .args .sheet)) (num (c .before .before .before .before .before .kind5 .given .0 .0)) (c .before .before .put-number-field2 .ensures))
 
 same-length-6 : tie.Need-same-length-6
 same-length-6 c = search needs
 
 returns-6 : tie.Need-returns-6
 unfolding kindFrom nameOf eventShape valuesOf fieldsOf columnField tailFields further
-returns-6 c = rw (c .before .before .before .before .before .kind6 .given .1) (last-field (num (c .before .before .before .before .before .kind6 .given .0 .0)) (c .before .before .put-number-field3 .ensures))
+returns-6 c = rw (c .before .before .before .before .before .kind6 .given .1) (last-field (formOf (c .before .before .before .before .before .before .before .before .args .sheet)) (num (c .before .before .before .before .before .kind6 .given .0 .0)) (c .before .before .put-number-field3 .ensures))
 
 same-length-7 : tie.Need-same-length-7
 same-length-7 c = search needs
 
 returns-7 : tie.Need-returns-7
 unfolding kindFrom nameOf eventShape valuesOf fieldsOf columnField tailFields further
-returns-7 c = rw (c .before .before .before .before .before .kind7 .given .1) (last-field (num (c .before .before .before .before .before .kind7 .given .0 .0)) (c .before .before .put-number-field4 .ensures))
+returns-7 c = rw (c .before .before .before .before .before .kind7 .given .1) (last-field (formOf (c .before .before .before .before .before .before .before .before .args .sheet)) (num (c .before .before .before .before .before .kind7 .given .0 .0)) (c .before .before .put-number-field4 .ensures))
 
 same-length-8 : tie.Need-same-length-8
 same-length-8 c = search needs
@@ -149,14 +150,14 @@ same-length-8 c = search needs
 returns-8 : tie.Need-returns-8
 unfolding kindFrom further
 returns-8 c = let k = c .before .before .before .before .before .before .before .before .before .kind8 .given in
-    rw (k .1) (rw (key-fields (k .0 .0) (k .0 .1 .0) (omega (arith, c .before .before .before .before .before .before .before .before .known-told8 .given))) at (then (c .before .before .before .before .before .before .put-key-field .ensures) (last-field (columnField mode (k .0 .1 .0)) (c .before .before .put-mode-field .ensures))))
+    rw (k .1) (rw (key-fields (formOf (c .before .before .before .before .before .before .before .before .before .before .before .before .args .sheet)) (k .0 .0) (k .0 .1 .0) (omega (arith, c .before .before .before .before .before .before .before .before .known-told8 .given))) at (then (c .before .before .before .before .before .before .put-key-field .ensures) (last-field (formOf (c .before .before .before .before .before .before .before .before .before .before .before .before .args .sheet)) (columnField mode (k .0 .1 .0)) (c .before .before .put-mode-field .ensures))))
 
 same-length-9 : tie.Need-same-length-9
 same-length-9 c = search needs
 
 returns-9 : tie.Need-returns-9
 unfolding kindFrom nameOf eventShape valuesOf fieldsOf columnField tailFields further
-returns-9 c = rw (c .before .before .before .before .before .kind9 .given .1) (last-field (num (c .before .before .before .before .before .kind9 .given .0 .0)) (c .before .before .put-number-field5 .ensures))
+returns-9 c = rw (c .before .before .before .before .before .kind9 .given .1) (last-field (formOf (c .before .before .before .before .before .before .before .before .args .sheet)) (num (c .before .before .before .before .before .kind9 .given .0 .0)) (c .before .before .put-number-field5 .ensures))
 
 returns-10 : tie.Need-returns-10
 unfolding further

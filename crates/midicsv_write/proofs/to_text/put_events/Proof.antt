@@ -1,6 +1,7 @@
+use Rattle.midicsv.proofs.BoundLaws.{most-few}
 use Rattle.midicsv.specs.Code.Form.{formOf}
 use Prim.Native.Nat.{_-_, _≤_}
-use lib.ListN.{length}
+use lib.ListN.{length, drop}
 use Rattle.event.specs.Outcome.{Readable}
 use Rattle.event.proofs.BytesLaws.{bytes-of}
 use Rattle.event_write.proofs.WriteLaws.{Remains, all-remains, go-on, finish}
@@ -14,10 +15,10 @@ use Rattle.midicsv_write.proofs.to_text.put_events.Statement.{statement
 use Rattle.midicsv_write.proofs.to_text.put_events.Tie as tie
 
 abbrev Inv-loop : tie.InvT-loop
-Inv-loop out₀ from body track next₀ at₀ time₀ status₀ out next at time status = (at ≤ length body) × (length out ≡ length out₀) × Readable (A body at (time .0) status) × Remains out₀ from (EventsLeft track body 0 0 0) out next (EventsLeft track body at (time .0) status)
+Inv-loop out₀ from body track sheet next₀ at₀ time₀ status₀ out next at time status = (at ≤ length body) × (length out ≡ length out₀) × Readable (A body at (time .0) status) × Remains out₀ from (EventsLeft (formOf sheet) track body 0 0 0) out next (EventsLeft (formOf sheet) track body at (time .0) status)
 
 abbrev μ-loop : tie.MeasureT-loop
-μ-loop out₀ from body track next₀ at₀ time₀ status₀ out next at time status = length body - at
+μ-loop out₀ from body track sheet next₀ at₀ time₀ status₀ out next at time status = length body - at
 
 loop-holds : tie.Need-loop-holds Inv-loop μ-loop
 loop-holds c = (omega arith, refl, c .before .before .pre .1 .1 .1, all-remains _ _ _)
@@ -49,7 +50,7 @@ put-event-line-requires c κs =
     let l = c .before .before .before .before .before .loop in
     let bytes = bytes-of s (λ i. omega (arith, c .before .before .before .before .before .before .shared-slice-known .given i)) in
     let p = c .before .before .before .before .before .before .before .before .pre in
-    (omega (arith, l .inv .3 .place, events-few (formOf (a .sheet)) (a .track) s 0 0 0 (p .1 .1 .0) bytes (p .1 .1 .1), p .0, p .1 .0), p .1 .0)
+    (omega (arith, l .inv .3 .place, events-few (formOf (a .sheet)) (a .track) s 0 0 0 (p .1 .1 .0) bytes (p .1 .1 .1), most-few (formOf (a .sheet)) (length (drop 0 s)), p .0, p .1 .0), p .1 .0)
 
 is-end-requires : tie.Need-is-end-requires Inv-loop μ-loop
 is-end-requires c κs = search needs

@@ -1,5 +1,7 @@
+use Rattle.midicsv.specs.Code.Form.{formOf}
+use Rattle.midicsv.proofs.BoundLaws.{most-few}
 use mathlib.Core.Path.{sym, _∙_}
-use lib.ListN.{length-drop}
+use lib.ListN.{length, drop, length-drop}
 use Rattle.event.proofs.BytesLaws.{bytes-of}
 use Rattle.event_write.proofs.WriteLaws.{then}
 use Rattle.smf.proofs.VerdictLaws.{head-at}
@@ -27,6 +29,7 @@ put-header-line-requires c κs = search needs
 put-tracks-requires : tie.Need-put-tracks-requires
 put-tracks-requires c κs =
     let s = c .before .before .before .before .before .before .before .before .before .before .before .args .file .now in
+    let w = formOf (c .before .before .before .before .before .before .before .before .before .before .before .args .sheet) in
     let p = c .before .before .before .before .before .before .before .before .before .before .before .pre in
     let bytes = bytes-of s (λ i. omega (arith, c .before .before .before .before .before .before .before .before .before .shared-slice-known .given i)) in
     let g = c .before .before .before .before .before .before .format .given in
@@ -36,11 +39,12 @@ put-tracks-requires c κs =
     let d = g .0 .1 .1 .0 in
     let n = g .0 .1 .1 .1 .0 in
     let there = file-accepted s x b d n bytes came (p .1) in
-    (omega (arith, c .before .before .before .put-header-line .ensures .place, header-line-length x b (d .0)), (head-at s x b d n bytes came .inside, (p .0, (tracks-counted s b n bytes there, accepted-readable s b n there))))
+    (omega (arith, c .before .before .before .put-header-line .ensures .place, header-line-length w x b (d .0)), (head-at s x b d n bytes came .inside, (p .0, (tracks-counted s b n bytes there, accepted-readable s b n there))))
 
 put-end-line-requires : tie.Need-put-end-line-requires
 put-end-line-requires c κs =
     let s = c .before .before .before .before .before .before .before .before .before .before .before .before .before .before .before .args .file .now in
+    let w = formOf (c .before .before .before .before .before .before .before .before .before .before .before .before .before .before .before .args .sheet) in
     let p = c .before .before .before .before .before .before .before .before .before .before .before .before .before .before .before .pre in
     let bytes = bytes-of s (λ i. omega (arith, c .before .before .before .before .before .before .before .before .before .before .before .before .before .shared-slice-known .given i)) in
     let g = c .before .before .before .before .before .before .before .before .before .before .format .given in
@@ -50,7 +54,7 @@ put-end-line-requires c κs =
     let d = g .0 .1 .1 .0 in
     let n = g .0 .1 .1 .1 .0 in
     let there = file-accepted s x b d n bytes came (p .1) in
-    omega (arith, c .before .before .before .put-tracks .ensures .place, c .before .before .before .before .before .before .before .put-header-line .ensures .place, header-line-length x b (d .0), tracks-few 1 s b n (omega (arith, tracks-counted s b n bytes there)) bytes (accepted-readable s b n there), length-drop n s, p .0)
+    omega (arith, c .before .before .before .put-tracks .ensures .place, c .before .before .before .before .before .before .before .put-header-line .ensures .place, header-line-length w x b (d .0), tracks-few w 1 s b n (omega (arith, tracks-counted s b n bytes there)) bytes (accepted-readable s b n there), most-few w (length (drop n s)), length-drop n s, p .0)
 
 returns : tie.Need-returns
 returns c = absurd (header-there (c .before .before .before .before .before .before .args .file .now) (c .before .number .given .0 .0) (c .before .number .given .0 .1 .0) (sym (c .before .before .before .read-header .ensures) ∙ c .before .number .given .1) (c .before .before .before .before .before .before .pre .1))
@@ -61,6 +65,7 @@ same-length c = search needs
 returns-2 : tie.Need-returns-2
 returns-2 c =
     let s = c .before .before .before .before .before .before .before .before .before .before .before .before .before .before .before .before .before .before .args .file .now in
+    let w = formOf (c .before .before .before .before .before .before .before .before .before .before .before .before .before .before .before .before .before .before .args .sheet) in
     let p = c .before .before .before .before .before .before .before .before .before .before .before .before .before .before .before .before .before .before .pre in
     let bytes = bytes-of s (λ i. omega (arith, c .before .before .before .before .before .before .before .before .before .before .before .before .before .before .before .before .shared-slice-known .given i)) in
     let g = c .before .before .before .before .before .before .before .before .before .before .before .before .before .format .given in
@@ -70,7 +75,7 @@ returns-2 c =
     let d = g .0 .1 .1 .0 in
     let n = g .0 .1 .1 .1 .0 in
     let there = file-accepted s x b d n bytes came (p .1) in
-    rw (text-lines s x b d n bytes came there) (then (c .before .before .before .before .before .before .before .before .before .before .put-header-line .ensures) (then (c .before .before .before .before .before .before .put-tracks .ensures) (c .before .before .put-end-line .ensures)))
+    rw (text-lines w s x b d n bytes came there) (then (c .before .before .before .before .before .before .before .before .before .before .put-header-line .ensures) (then (c .before .before .before .before .before .before .put-tracks .ensures) (c .before .before .put-end-line .ensures)))
 
 pub put-text-spec : {M : Type 1} → statement M
 put-text-spec =

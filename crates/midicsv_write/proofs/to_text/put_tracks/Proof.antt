@@ -1,5 +1,7 @@
+use Rattle.midicsv.proofs.BoundLaws.{most-few}
+use Rattle.midicsv.specs.Code.Form.{formOf}
 use Prim.Native.Nat.{suc, _-_}
-use lib.ListN.{length, length-drop}
+use lib.ListN.{length, drop, length-drop}
 use native.Mathlib.Numerals.{add-one}
 use Rattle.event.proofs.BytesLaws.{bytes-of, size-at}
 use Rattle.event_write.proofs.WriteLaws.{all-remains, go-on, done}
@@ -13,10 +15,10 @@ use Rattle.midicsv_write.proofs.to_text.put_tracks.Statement.{statement
 use Rattle.midicsv_write.proofs.to_text.put_tracks.Tie as tie
 
 abbrev Inv-loop : tie.InvT-loop
-Inv-loop out₀ from file count first next₀ at₀ track₀ out next at track = (length out ≡ length out₀) × TracksGoing file count first from out₀ out next at track
+Inv-loop out₀ from file count first sheet next₀ at₀ track₀ out next at track = (length out ≡ length out₀) × TracksGoing (formOf sheet) file count first from out₀ out next at track
 
 abbrev μ-loop : tie.MeasureT-loop
-μ-loop out₀ from file count first next₀ at₀ track₀ out next at track = suc count - track
+μ-loop out₀ from file count first sheet next₀ at₀ track₀ out next at track = suc count - track
 
 loop-holds : tie.Need-loop-holds Inv-loop μ-loop
 loop-holds c = let a = c .before .before .args in let p = c .before .before .pre in (refl, record { left = a .count; numbered = add-one (a .count); inside = p .1 .0; readable = p .1 .1 .1 .1; remains = all-remains _ _ _ })
@@ -98,7 +100,7 @@ put-track-requires c κs =
     let one = turn-track s (i .left) (i .left - 1) (l .at) x y n bytes came (i .readable) in
     let p = c .before .before .before .before .before .before .before .before .before .before .pre in
     let size = size-at s x (y - x) (omega (arith, there .order, there .inside)) in
-    (omega (arith, i .remains .place, tracks-few 1 s (a .count) (a .first) (omega (arith, p .1 .1 .1 .0)) bytes (p .1 .1 .1 .1), length-drop (a .first) s, p .0, p .1 .1 .0), (omega (arith, size, there .inside, p .1 .1 .0), (omega (arith, c .before .before .before .before .before .before .loop-test .taken, p .1 .1 .1 .0), one .body)))
+    (omega (arith, i .remains .place, tracks-few (formOf (a .sheet)) 1 s (a .count) (a .first) (omega (arith, p .1 .1 .1 .0)) bytes (p .1 .1 .1 .1), most-few (formOf (a .sheet)) (length (drop (a .first) s)), length-drop (a .first) s, p .0, p .1 .1 .0), (omega (arith, size, there .inside, p .1 .1 .0), (omega (arith, c .before .before .before .before .before .before .loop-test .taken, p .1 .1 .1 .0), one .body)))
 
 add-track : tie.Need-add-track Inv-loop μ-loop
 add-track c = omega (arith, c .before .before .before .before .before .before .before .before .before .loop-test .taken, c .before .before .before .before .before .before .before .before .before .before .before .before .before .pre .1 .1 .1 .0)
@@ -120,14 +122,14 @@ loop-again c =
     let i = l .inv .1 in
     let n : i .left ≡ suc (i .left - 1) = omega (arith, i .numbered, c .before .before .before .before .before .before .before .before .before .loop-test .taken) in
     let one = turn-track s (i .left) (i .left - 1) (l .at) x y n bytes came (i .readable) in
-    let to = track-left (l .track) s (i .left) (i .left - 1) (l .at) x y one in
+    let to = track-left (formOf (a .sheet)) (l .track) s (i .left) (i .left - 1) (l .at) x y one in
     (c .before .before .put-track .kept .0 ∙ l .inv .0, record { left = i .left - 1; numbered = omega (arith, i .numbered, n); inside = there .inside; readable = one .rest; remains = go-on _ _ _ (i .remains) to (c .before .before .put-track .ensures) })
 
 same-length-2 : tie.Need-same-length-2 Inv-loop μ-loop
 same-length-2 c = c .before .loop .inv .0
 
 returns-2 : tie.Need-returns-2 Inv-loop μ-loop
-returns-2 c = let a = c .before .before .before .before .args in let l = c .before .loop in let i = l .inv .1 in done _ (i .remains) (no-tracks-left (l .track) (a .file .now) (i .left) (l .at) (omega (arith, i .numbered, c .loop-test .left)))
+returns-2 c = let a = c .before .before .before .before .args in let l = c .before .loop in let i = l .inv .1 in done _ (i .remains) (no-tracks-left (formOf (a .sheet)) (l .track) (a .file .now) (i .left) (l .at) (omega (arith, i .numbered, c .loop-test .left)))
 
 pub put-tracks-spec : {M : Type 1} → statement M
 put-tracks-spec =
