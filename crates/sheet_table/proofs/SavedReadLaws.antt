@@ -196,9 +196,11 @@ module _ (f : List ℕ) (p : Piece) (w : Way) (l : LaidOut f p) where
   sound : AllSound (pieceRecords p)
   sound = piece-sound p (l .has .lawful) layable
 
+  -- saved in this way, but with that layout
   abbrev savedIn : Layout → List ℕ
   savedIn y = orderMark (w .marked) ++ withEnds (w .carriage) (w .lastEnd) (tableRows y (pieceRecords p) ++ emptyLines (layoutSep y) (w .emptyRows))
 
+  -- a cell for each field
   cells-read : (s : Separator) (ws : List RowWay) → w .layout ≡ inCells s ws → pieceOfText (tableText (saved w p)) ≡ ok p []
   unfolding saved tableRows layoutSep
   cells-read s ws e =
@@ -206,6 +208,7 @@ module _ (f : List ℕ) (p : Piece) (w : Way) (l : LaidOut f p) where
       ∙ rows-read s (w .emptyRows) (w .marked) (w .carriage) (w .lastEnd) (savedRows (sepByte s) ws (pieceRecords p)) (pieceRecords p) p
       (saved-rows s ws (pieceRecords p) sound) (saved-found s (w .emptyRows) ws p (l .has .lawful)) (piece-run p 1 layable)
 
+  -- a cell for each line
   pub wrapped-read : (qs : List Bool) → w .layout ≡ inOneCell qs → pieceOfText (tableText (saved w p)) ≡ ok p []
   unfolding saved tableRows layoutSep sepByte
   wrapped-read qs e =
