@@ -21,6 +21,18 @@ extern "C" {
     ) -> u64;
     fn noferkash_tidy(file: *const u8, file_len: usize, out: *mut u8, out_len: usize) -> u64;
     fn noferkash_fold(file: *const u8, file_len: usize, out: *mut u8, out_len: usize) -> u64;
+    fn noferkash_file_to_sheet(
+        file: *const u8,
+        file_len: usize,
+        out: *mut u8,
+        out_len: usize,
+    ) -> u64;
+    fn noferkash_sheet_to_text(
+        saved: *const u8,
+        saved_len: usize,
+        out: *mut u8,
+        out_len: usize,
+    ) -> u64;
 }
 
 /// The packed answer.
@@ -52,4 +64,17 @@ pub fn tidy(file: &mut [u8], room: &mut [u8]) -> u64 {
 pub fn fold(file: &mut [u8], room: &mut [u8]) -> u64 {
     // Safe as above.
     unsafe { noferkash_fold(file.as_mut_ptr(), file.len(), room.as_mut_ptr(), room.len()) }
+}
+
+/// The packed answer; on success `room` begins with the sheet.
+pub fn file_to_sheet(file: &mut [u8], room: &mut [u8]) -> u64 {
+    // Safe as above.
+    unsafe { noferkash_file_to_sheet(file.as_mut_ptr(), file.len(), room.as_mut_ptr(), room.len()) }
+}
+
+/// The packed answer; on success `room` begins with the text of the table.
+pub fn sheet_to_text(saved: &mut [u8], room: &mut [u8]) -> u64 {
+    let (out, out_len) = (room.as_mut_ptr(), room.len());
+    // Safe as above.
+    unsafe { noferkash_sheet_to_text(saved.as_mut_ptr(), saved.len(), out, out_len) }
 }

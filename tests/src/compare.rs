@@ -18,9 +18,9 @@ pub struct Operation {
     pub second: Second,
     /// Answers packed, so that a place or length out of bounds shows too.
     pub archive: Archive,
-    /// So many bytes of room for each byte of input are always enough, and a
-    /// program may go another way there; 0 if no such number is known.
-    pub enough: usize,
+    /// For input of a length, a room that is always enough, in which a program may go
+    /// another way; 0 if none is known.
+    pub enough: fn(usize) -> usize,
     /// Whether the manner counts.
     pub manners: bool,
 }
@@ -83,7 +83,7 @@ pub struct Difference {
 impl Operation {
     /// One whose manner does not count, and no room is known to be always enough.
     pub const fn new(name: &'static str, second: Second, archive: Archive) -> Operation {
-        Operation { name, second, archive, enough: 0, manners: false }
+        Operation { name, second, archive, enough: |_| 0, manners: false }
     }
 
     /// Runs both on the same input; `seed` chooses manner and room.
@@ -92,7 +92,7 @@ impl Operation {
         let rng = &mut Rng::new(seed ^ 1 << 63);
         let manner = manner(rng);
         let asked = (self.second)(input, manner, &mut []);
-        let enough = self.enough * input.len();
+        let enough = (self.enough)(input.len());
         let room = match asked.number {
             _ if enough > 0 && rng.one_in(3) => enough - rng.index(2),
             0 | 14 => room(rng, asked.length),
@@ -114,7 +114,7 @@ impl Operation {
         needed: usize,
     ) -> Result<Met, Difference> {
         let mut given = Fenced::new(rng, input);
-        let before = given.bytes.clone();
+        let fences = given.fences();
         let lent = rng.noise(room);
         let mut due = Fenced::new(rng, &lent);
         let mut made = due.clone();
@@ -123,13 +123,13 @@ impl Operation {
 
         let what = if archive != second {
             "answers"
-        } else if given.bytes != before {
+        } else if given.inner() != input || given.fences() != fences {
             "input written"
         } else if made.bytes != due.bytes {
             "room or the bytes round it"
         } else {
             let Answer { number, place, .. } = Answer::unpacked(second);
-            let room = Room::of(room, needed, self.enough * input.len());
+            let room = Room::of(room, needed, (self.enough)(input.len()));
             return Ok(Met { number, place, room, manner });
         };
         Err(Difference { what, second, archive, manner, room })
@@ -172,6 +172,10 @@ impl Fenced {
     fn inner(&mut self) -> &mut [u8] {
         &mut self.bytes[self.inner.clone()]
     }
+
+    fn fences(&self) -> [Vec<u8>; 2] {
+        [self.bytes[..self.inner.start].to_vec(), self.bytes[self.inner.end..].to_vec()]
+    }
 }
 
 #[test]
@@ -194,8 +198,7 @@ fn a_fence_stands_on_either_side() {
         assert_eq!(fenced.inner(), b"inner");
         assert_eq!(fenced.bytes.len() - fenced.inner.end, FENCE);
         shifts.push(fenced.inner.start - FENCE);
-        fences.push(fenced.bytes[..fenced.inner.start].to_vec());
-        fences.push(fenced.bytes[fenced.inner.end..].to_vec());
+        fences.extend(fenced.fences());
     }
     shifts.sort();
     shifts.dedup();

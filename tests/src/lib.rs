@@ -1,8 +1,8 @@
 //! The second program: Standard MIDI Files to MIDICSV text and back, written
 //! from the papers alone so that it can be held against the proved program.
 //! `operations` holds the five operations of document 01, `fold` the first of document
-//! 02, `generate` the seeded inputs, and `compare` holds the one program against the
-//! other.
+//! 02, `sheet` and `table` the way through a spreadsheet, `generate` the seeded inputs,
+//! and `compare` holds the one program against the other.
 
 #[cfg(feature = "archive")]
 pub mod archive;
@@ -19,7 +19,9 @@ pub mod read_file;
 pub mod read_text;
 pub mod refusal;
 pub mod run;
+pub mod sheet;
 pub mod spelling;
+pub mod table;
 pub mod text_field;
 pub mod text_record;
 pub mod write_file;
@@ -29,3 +31,5 @@ pub mod write_text;
 pub const FILE_MAX: usize = 1_048_576;
 /// The longest text that is read, in bytes.
 pub const TEXT_MAX: usize = 33_554_432;
+/// The longest table that is read, in bytes.
+pub const TABLE_MAX: usize = 268_435_456;

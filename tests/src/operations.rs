@@ -83,7 +83,7 @@ pub(crate) fn deliver_file(piece: &Piece, manner: Manner, room: &mut [u8]) -> An
     }
 }
 
-fn deliver(made: &[u8], room: &mut [u8]) -> Answer {
+pub(crate) fn deliver(made: &[u8], room: &mut [u8]) -> Answer {
     match room.get_mut(..made.len()) {
         Some(start) => {
             start.copy_from_slice(made);

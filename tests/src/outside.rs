@@ -1,5 +1,6 @@
 //! The outside files of the folder `corpus`, what midicsv, csvmidi and mido make of
-//! them, and the inputs that the fuzzer found worth keeping.
+//! them, what spreadsheets saved (the folder `sheets`), and the inputs that the fuzzer
+//! found worth keeping.
 
 use std::fs;
 use std::path::{Path, PathBuf};
@@ -52,6 +53,59 @@ pub fn expected_fold(name: &str) -> Result<Vec<u8>, Answer> {
         _ if name.contains("allkinds") => refused(33, 131),
         _ => Ok(expected(name, "fold.mid")),
     }
+}
+
+/// A table that a spreadsheet saved.
+pub struct SavedTable {
+    pub name: String,
+    pub table: Vec<u8>,
+    /// The file that it gives in manner 1, with the edit if there was one.
+    pub file: Vec<u8>,
+}
+
+/// The pieces of the folder `sheets`.
+pub const SHEETS: [&str; 2] = ["nasty", "song"];
+
+/// A file of the folder `sheets`.
+pub fn stored_sheet(name: &str) -> Vec<u8> {
+    let path = folder("sheets").join(name);
+    fs::read(&path).unwrap_or_else(|error| panic!("{}: {error}", path.display()))
+}
+
+/// The tables of the folder `sheets`, the sheets themselves among them, in order of names.
+pub fn saved_tables() -> Vec<SavedTable> {
+    let mut tables = Vec::new();
+    for entry in fs::read_dir(folder("sheets")).expect("the folder sheets") {
+        let entry = entry.expect("an entry of the folder sheets");
+        let name = entry.file_name().to_string_lossy().into_owned();
+        let Some(piece) = SHEETS.iter().find(|piece| name.starts_with(**piece)) else { continue };
+        if name.ends_with(".csv") {
+            let file = edited(&name, stored_sheet(&format!("{piece}.mid")));
+            tables.push(SavedTable { table: stored_sheet(&name), name, file });
+        }
+    }
+    tables.sort_by(|a, b| a.name.cmp(&b.name));
+    tables
+}
+
+/// The file with what was typed into cell D3, the text of its first event.
+fn edited(name: &str, file: Vec<u8>) -> Vec<u8> {
+    if !name.contains("edited") {
+        return file;
+    }
+    let typed: &[u8] = match name.contains("latin1") {
+        true => b"Glo-ria, \"et\" n\xE9",
+        false => "Glo-ria, \"et\" n\u{E9}".as_bytes(),
+    };
+    // Header, chunk, delta and FF with a type; then the text's length and the text.
+    const TRACK: usize = 14;
+    const LENGTH: usize = TRACK + 8 + 3;
+    let rest = &file[LENGTH + 1 + usize::from(file[LENGTH])..];
+    let mut edited = [&file[..LENGTH], &[typed.len() as u8], typed, rest].concat();
+    let before = u32::from_be_bytes(file[TRACK + 4..TRACK + 8].try_into().expect("four bytes"));
+    let length = before + typed.len() as u32 - u32::from(file[LENGTH]);
+    edited[TRACK + 4..TRACK + 8].copy_from_slice(&length.to_be_bytes());
+    edited
 }
 
 /// What is stored of fuzzing, `files` or `texts`, in order of names; at least one.

@@ -11,7 +11,7 @@ use std::time::{Duration, Instant};
 
 use crate::compare::{Difference, Met, Operation, Room};
 use crate::coverage::Coverage;
-use crate::generate::{Aim, LimitCase, LimitText, Rng};
+use crate::generate::{Aim, LimitCase, LimitTable, LimitText, Rng};
 use crate::piece::Piece;
 use crate::refusal::{Answer, Refusal};
 
@@ -195,6 +195,24 @@ impl Run<'_> {
                 let what = format!("{what}, room {room}");
                 let compared = self.operation.compare_in(rng, file, 1, room, needed);
                 self.take_due(&mut source, &what, file, compared, due);
+            }
+        }
+        self.sources.push(source);
+    }
+
+    /// The same on tables at limits; both must give the answer due.
+    pub fn table_limits(&mut self, name: &'static str, cases: &[LimitTable]) {
+        let mut source = Source::of(name, 0..cases.len() as u64);
+        let rng = &mut Rng::new(0);
+        for case in cases {
+            let table = case.table();
+            let needed = case.due.length;
+            for room in case.rooms.iter().copied() {
+                let fits = case.due.number == 14 && room >= needed;
+                let due = (if fits { 0 } else { case.due.number }, case.due.place);
+                let what = format!("{}, room {room}", case.what);
+                let compared = self.operation.compare_in(rng, &table, 0, room, needed);
+                self.take_due(&mut source, &what, &table, compared, due);
             }
         }
         self.sources.push(source);

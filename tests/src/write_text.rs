@@ -68,7 +68,7 @@ fn write_event(text: &mut Vec<u8>, track: usize, event: &Event) {
     text.push(b'\n');
 }
 
-fn name(kind: &Kind) -> &'static str {
+pub fn name(kind: &Kind) -> &'static str {
     match kind {
         Kind::NoteOff { .. } => "Note_off_c",
         Kind::NoteOn { .. } => "Note_on_c",

@@ -7,7 +7,7 @@ use std::io::Write;
 use std::path::PathBuf;
 use std::process::{Command, Output, Stdio};
 
-use common::{ended, file_of, hex, one_track, to_file, to_text};
+use common::{ended, file_of, hex, one_track, to_file, to_sheet, to_text};
 
 fn run(words: &[&str], input: &[u8]) -> Output {
     let mut child = Command::new(env!("CARGO_BIN_EXE_second"))
@@ -48,6 +48,10 @@ fn streams() {
     assert_eq!(told(&["tidy"], &file), good(&to_file(&text, 1).unwrap()));
     assert_eq!(told(&["list"], &file), good(b"1, 96, 3\n"));
     assert_eq!(told(&["fold"], &file), good(&to_file(&text, 1).unwrap()));
+    let sheet = to_sheet(&file).unwrap();
+    assert_eq!(told(&["to-sheet"], &file), good(&sheet));
+    assert_eq!(told(&["from-sheet"], &sheet), good(&to_file(&text, 1).unwrap()));
+    assert_eq!(told(&["from-sheet", "-x", "-", "-"], &sheet), good(&file));
     let two = file_of(1, &[hex("00 FF 2F 00"), hex("60 FF 2F 00")]);
     assert_eq!(told(&["fold", "-", "-"], &two), good(&one_track("60 FF 2F 00")));
 }
@@ -61,14 +65,17 @@ fn files_and_messages() {
     let message = format!("{bad}: refused 12 at byte 33\n");
     assert_eq!(told(&["to-text", bad, out], &[]), (1, vec![], message.clone()));
     assert_eq!(fs::read(out).unwrap(), b"old");
-    for verb in ["check", "tidy", "list", "fold"] {
+    for verb in ["check", "tidy", "list", "fold", "to-sheet"] {
         assert_eq!(told(&[verb, bad], &[]), (1, vec![], message.clone()));
     }
     let ports = file_of(1, &[hex("00 FF 2F 00"), hex("00 FF 21 01 00 00 FF 2F 00")]);
     let byte = "-: refused 33 at byte 34\n".to_owned();
     assert_eq!(told(&["fold"], &ports), (1, vec![], byte));
     let line = "-: refused 22 at line 2\n".to_owned();
-    assert_eq!(told(&["to-midi"], b"# text\n+"), (1, vec![], line));
+    assert_eq!(told(&["to-midi"], b"# text\n+"), (1, vec![], line.clone()));
+    assert_eq!(told(&["from-sheet"], b"# text\n+"), (1, vec![], line));
+    let none = "-: refused 28 at line 1\n".to_owned();
+    assert_eq!(told(&["from-sheet"], b""), (1, vec![], none));
     let good = scratch("good.mid");
     fs::write(&good, hex("4D546864 00000006 0000 0001 0060 4D54726B 00000004 00FF2F00")).unwrap();
     assert_eq!(told(&["to-text", good.to_str().unwrap(), out], &[]), (0, vec![], String::new()));

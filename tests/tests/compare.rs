@@ -103,7 +103,7 @@ fn manner_and_room_reach_both() {
 #[test]
 fn rooms_that_are_always_enough_are_met() {
     const TEXT: Operation = Operation {
-        enough: 25,
+        enough: |length| 25 * length,
         ..Operation::new(
             "file_to_text",
             |file, _, room| file_to_text(file, room),

@@ -7,8 +7,9 @@ use std::ops::RangeInclusive;
 
 use common::{folded, tidied, to_text};
 use second::generate::{
-    aims, benchmark_file, file_case, fold_benchmark_file, limit_cases, manner, many_tracks_case,
-    piece, room, small_benchmark_file, small_fold_benchmark_file, text_case, text_limit_cases, Rng,
+    aims, benchmark_file, damaged_table_case, file_case, fold_benchmark_file, limit_cases, manner,
+    many_tracks_case, piece, random_table_case, room, saved_case, sheet_text_files, short_table,
+    small_benchmark_file, small_fold_benchmark_file, sung_file, text_case, text_limit_cases, Rng,
 };
 use second::number::read_variable;
 use second::operations::{check, file_to_text, text_to_file};
@@ -220,6 +221,8 @@ fn seeds_give_what_they_gave() {
     let benchmarks = [fnv(&benchmark_file()), fnv(&small_benchmark_file())];
     let to_fold: Vec<u8> =
         FOLDED.iter().flat_map(|tracks| fnv(&fold_benchmark_file(*tracks)).to_be_bytes()).collect();
+    let texts: Vec<u8> =
+        sheet_text_files().iter().flat_map(|file| fnv(file).to_be_bytes()).collect();
     let hashes = [
         hash(file_case),
         hash(text_case),
@@ -228,12 +231,20 @@ fn seeds_give_what_they_gave() {
         fnv(&aimed),
         hash(many_tracks_case),
         fnv(&to_fold),
+        hash(|seed| sung_file(&mut Rng::new(seed))),
+        fnv(&texts),
+        hash(saved_case),
+        hash(damaged_table_case),
+        hash(random_table_case),
+        hash(short_table),
     ];
     println!("{hashes:016x?}");
     assert_eq!(hashes, PINNED, "pin anew if the generator was changed on purpose");
 }
 
-const PINNED: [u64; 7] = [
+const PINNED: [u64; 13] = [
     0xf3c2_ee0c_b167_5a69, 0x255e_fdf4_429a_07b3, 0x80ca_d4ff_450a_95d7, 0x8e2b_f0b6_0c94_7c34,
-    0x0eef_715d_ac33_2038, 0x6417_ff2e_bdb9_ee9f, 0x8e35_28a6_a807_e1ee,
+    0x0eef_715d_ac33_2038, 0x6417_ff2e_bdb9_ee9f, 0x8e35_28a6_a807_e1ee, 0x14a4_9e55_be6c_91e1,
+    0xf81b_4767_f6fb_1324, 0xa9f0_d65a_e90f_ef86, 0xeb02_e454_8150_0397, 0x94f6_1f21_8b97_91e6,
+    0x5b1f_3d85_81de_8294,
 ];

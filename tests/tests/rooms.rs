@@ -3,9 +3,14 @@
 mod common;
 
 use second::fold::fold;
-use second::generate::{file_case, manner, many_tracks_case, room, text_case, Rng};
+use second::generate::{
+    damaged_table_case, file_case, manner, many_tracks_case, random_table_case, room, saved_case,
+    text_case, Rng,
+};
 use second::operations::{file_to_text, list_tracks, text_to_file, tidy};
 use second::refusal::Answer;
+use second::sheet::{self, file_to_sheet};
+use second::table::{self, sheet_to_text};
 
 const SEEDS: u64 = 3_000;
 const GUARD: u8 = 0xA5;
@@ -72,6 +77,32 @@ fn rooms_for_files() {
     }
     println!("{fits} of {SEEDS} texts written, seeds 0..{SEEDS}");
     assert!(fits > SEEDS / 4);
+}
+
+/// The room that is always enough is too.
+#[test]
+fn rooms_for_sheets_and_their_texts() {
+    let (mut sheets, mut texts) = (0, 0);
+    for seed in 0..SEEDS {
+        let file = file_case(seed);
+        let asked = try_rooms(seed, |room| file_to_sheet(&file, room));
+        let enough = file_to_sheet(&file, &mut vec![GUARD; sheet::room_enough(file.len())]);
+        assert_eq!(enough.number == 0, asked.number == 14, "seed {seed}: {enough:?}");
+        sheets += u64::from(asked.number == 14);
+        for table in [saved_case(seed), damaged_table_case(seed), random_table_case(seed)] {
+            let room = &mut vec![GUARD; table::room_enough(table.len())];
+            assert_eq!(sheet_to_text(&table, room).number, 0, "seed {seed}");
+            if sheet_to_text(&table, &mut []) == Answer::success(0) {
+                // Nothing was saved, and nothing is written.
+                continue;
+            }
+            let asked = try_rooms(seed, |room| sheet_to_text(&table, room));
+            assert_eq!(asked.number, 14, "seed {seed}");
+            texts += 1;
+        }
+    }
+    println!("{sheets} sheets and {texts} texts written, seeds 0..{SEEDS}");
+    assert!(sheets > SEEDS / 4 && texts > 2 * SEEDS);
 }
 
 #[test]

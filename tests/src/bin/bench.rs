@@ -18,6 +18,8 @@ use second::generate::{
 };
 use second::operations;
 use second::refusal::Answer;
+use second::sheet;
+use second::table;
 
 const ROUNDS: usize = 10;
 /// Calls on a small input that are timed together: they take about as long as one on
@@ -48,6 +50,7 @@ fn main() {
     }
     print_table(&rows);
     print_notes(&large, &small);
+    print_ways(&rows);
     println!("Load {before} before, {} after; {}.", load(), machine());
     for row in &rows {
         match row.task.outside {
@@ -65,17 +68,25 @@ struct Inputs {
     text: Vec<u8>,
     /// Empty if the file is none to be folded.
     folded: Vec<u8>,
+    sheet: Vec<u8>,
+    /// What comes of the sheet if nobody changes it.
+    sheet_text: Vec<u8>,
 }
 
 impl Inputs {
     fn of(file: Vec<u8>) -> Inputs {
-        let mut text = vec![FILL; 25 * file.len()];
-        let length = operations::file_to_text(&file, &mut text).length;
-        text.truncate(length);
-        let mut folded = vec![FILL; file.len()];
-        let length = fold::fold(&file, &mut folded).length;
-        folded.truncate(length);
-        Inputs { file, text, folded }
+        let made = |room: usize, work: &dyn Fn(&mut [u8]) -> Answer| {
+            let mut made = vec![FILL; room];
+            let length = work(&mut made).length;
+            made.truncate(length);
+            made
+        };
+        let text = made(25 * file.len(), &|room| operations::file_to_text(&file, room));
+        let folded = made(file.len(), &|room| fold::fold(&file, room));
+        let sheet = made(sheet::room_enough(file.len()), &|room| sheet::file_to_sheet(&file, room));
+        let sheet_text =
+            made(table::room_enough(sheet.len()), &|room| table::sheet_to_text(&sheet, room));
+        Inputs { file, text, folded, sheet, sheet_text }
     }
 }
 
@@ -95,18 +106,35 @@ struct Task {
     outside: Option<&'static str>,
 }
 
-const TASKS: [Task; 5] = [
+const FILE_TO_TEXT: &str = "file to text, buffer 25n";
+const TEXT_TO_FILE: &str = "text to file, short";
+const FILE_TO_SHEET: &str = "file to sheet, buffer 23n";
+const SHEET_TO_TEXT: &str = "sheet to text, buffer 2n+2";
+const SHEET_TEXT_TO_FILE: &str = "text to file, of a sheet";
+
+const TASKS: [Task; 8] = [
     // In so much room any file's text fits, and ours measures nothing first.
-    Task { name: "file to text, buffer 25n", room: |inputs| 25 * inputs.file.len(), ..TO_TEXT },
+    Task { name: FILE_TO_TEXT, room: |inputs| 25 * inputs.file.len(), ..TO_TEXT },
     Task { name: "file to text, exact buffer", ..TO_TEXT },
+    Task { name: TEXT_TO_FILE, outside: Some("csvmidi"), ..TO_FILE },
     Task {
-        name: "text to file, short",
-        input: |inputs| &inputs.text,
-        ours: |text, room| archive::text_to_file(text, 1, room),
-        second: |text, room| operations::text_to_file(text, 1, room).packed(),
-        outside: Some("csvmidi"),
+        name: FILE_TO_SHEET,
+        due: |inputs| &inputs.sheet,
+        room: |inputs| sheet::room_enough(inputs.file.len()),
+        ours: |file, room| archive::file_to_sheet(file, room),
+        second: |file, room| sheet::file_to_sheet(file, room).packed(),
         ..TIDY
     },
+    Task {
+        name: SHEET_TO_TEXT,
+        input: |inputs| &inputs.sheet,
+        due: |inputs| &inputs.sheet_text,
+        room: |inputs| table::room_enough(inputs.sheet.len()),
+        ours: |saved, room| archive::sheet_to_text(saved, room),
+        second: |saved, room| table::sheet_to_text(saved, room).packed(),
+        ..TIDY
+    },
+    Task { name: SHEET_TEXT_TO_FILE, input: |inputs| &inputs.sheet_text, ..TO_FILE },
     Task {
         name: "check",
         due: |_| &[],
@@ -147,6 +175,14 @@ const TO_TEXT: Task = Task {
         made.map_or_else(Answer::from, |()| Answer::success(room.len())).packed()
     }),
     outside: Some("midicsv"),
+};
+
+const TO_FILE: Task = Task {
+    name: "text to file",
+    input: |inputs| &inputs.text,
+    ours: |text, room| archive::text_to_file(text, 1, room),
+    second: |text, room| operations::text_to_file(text, 1, room).packed(),
+    ..TIDY
 };
 
 const TIDY: Task = Task {
@@ -325,12 +361,30 @@ fn print_notes(large: &Inputs, small: &Inputs) {
         "\n\
          Milliseconds, medians of {ROUNDS} by the wall clock. Ratio: ours by the other's. midicsv\n\
          (csvmidi in the row of text to file) is a whole process. Growth: ours by ours on a file\n\
-         of {} bytes, {:.2} times smaller, or on its text of {} bytes, {:.2} times smaller; of a\n\
-         fold, on a file of as many tracks, 16 times smaller.",
+         of {} bytes, {:.2} times smaller, or on its text of {} bytes, {:.2} times smaller, or on\n\
+         its sheet, {:.2} times smaller; of a fold, on a file of as many tracks, 16 times smaller.",
         small.file.len(),
         times(|inputs| &inputs.file),
         small.text.len(),
         times(|inputs| &inputs.text),
+        times(|inputs| &inputs.sheet),
+    );
+}
+
+/// The way through a spreadsheet beside the way through a text, ours, forth and back.
+fn print_ways(rows: &[Row]) {
+    let sum = |names: &[&str]| -> Duration {
+        let rows = rows.iter().filter(|row| names.contains(&row.task.name));
+        rows.map(|row| row.ours.median()).sum()
+    };
+    let sheet_way = sum(&[FILE_TO_SHEET, SHEET_TO_TEXT, SHEET_TEXT_TO_FILE]);
+    let text_way = sum(&[FILE_TO_TEXT, TEXT_TO_FILE]);
+    println!(
+        "sheet way / text way: (file to sheet + sheet to text + text to file of that text) / \
+         (file to text + text to file) = {} / {} = {} (limit 1.5)",
+        milliseconds(sheet_way),
+        milliseconds(text_way),
+        ratio(sheet_way, text_way),
     );
 }
 

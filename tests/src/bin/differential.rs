@@ -1,9 +1,9 @@
-//! differential [CASES [FIRST_SEED]]: the proved archive against the second
-//! program. Exit 0 when all answers are the same, every number, room, manner and aim
-//! due was met and no other number, the generated files and texts held all that is
-//! due, outside files and texts are converted and folded as they must be, and what is
-//! converted forth and back is as it was. With fewer cases than `CASES` what was never met is
-//! said, but is no fault.
+//! differential [CASES [FIRST_SEED [OPERATION]]]: the proved archive against the second
+//! program, in all operations or in one. Exit 0 when all answers are the same, every
+//! number, room, manner and aim due was met and no other number, the generated files and
+//! texts held all that is due, outside files, texts and tables are converted and folded as
+//! they must be, and what is converted forth and back is as it was. With fewer cases than
+//! `CASES` what was never met is said, but is no fault.
 
 use std::env;
 use std::process::ExitCode;
@@ -12,17 +12,27 @@ use second::archive;
 use second::compare::Operation;
 use second::fold;
 use second::generate::{
-    aims, benchmark_file, file_case, fold_limit_cases, good_file, limit_cases, many_tracks_case,
-    mutated_copy, mutated_text, piece, plain_text, text_case, text_limit_cases, Rng,
+    aims, benchmark_file, damaged_table, damaged_table_case, file_case, fold_limit_cases,
+    good_file, limit_cases, many_tracks_case, mutated_copy, mutated_text, opened, piece,
+    plain_text, random_table_case, saved, saved_case, sheet_text_files, short_table, short_tables,
+    small_benchmark_file, sung_file, table_limit_cases, text_case, text_limit_cases, Rng,
 };
 use second::operations;
-use second::outside::{expected, expected_fold, has_film_division, kept, outside_files};
+use second::outside::{
+    expected, expected_fold, has_film_division, kept, outside_files, saved_tables,
+};
 use second::read_file::read_file;
 use second::read_text::read_text;
 use second::refusal::Answer;
 use second::run::{Run, GENERATED};
+use second::sheet::{self, sheet_of};
+use second::spelling::Manner;
+use second::table;
+use second::write_file::write_file;
 
-const USAGE: &str = "usage: differential [CASES [FIRST_SEED]], with CASES at least 1000";
+const USAGE: &str = "\
+usage: differential [CASES [FIRST_SEED [OPERATION]]], with CASES at least 1000
+OPERATION is check, tidy, file_to_text, text_to_file, fold, file_to_sheet or sheet_to_text";
 /// So many meet all that is due; 100,000 do not.
 const CASES: u64 = 500_000;
 /// With fewer some sources would have no case at all.
@@ -47,7 +57,7 @@ const FOLD: Operation = Operation::new(
 );
 
 const TEXT: Operation = Operation {
-    enough: 25,
+    enough: |length| 25 * length,
     ..Operation::new(
         "file_to_text",
         |file, _, room| operations::file_to_text(file, room),
@@ -60,50 +70,104 @@ const FILE: Operation = Operation {
     ..Operation::new("text_to_file", operations::text_to_file, archive::text_to_file)
 };
 
+const SHEET: Operation = Operation {
+    enough: sheet::room_enough,
+    ..Operation::new(
+        "file_to_sheet",
+        |file, _, room| sheet::file_to_sheet(file, room),
+        |file, _, room| archive::file_to_sheet(file, room),
+    )
+};
+
+const TABLE: Operation = Operation {
+    enough: table::room_enough,
+    ..Operation::new(
+        "sheet_to_text",
+        |saved, _, room| table::sheet_to_text(saved, room),
+        |saved, _, room| archive::sheet_to_text(saved, room),
+    )
+};
+
+/// The runs of an operation, and what is asked of the archive alone.
+type Part = (&'static Operation, fn(cases: u64, first: u64, few: bool) -> Vec<bool>);
+
+const PARTS: [Part; 7] = [
+    (&CHECK, |cases, first, few| {
+        let read: Vec<u8> = (0..=13).collect();
+        vec![on_files(Run::of(&CHECK).of_few(few), &read, cases, first)]
+    }),
+    (&TIDY, |cases, first, few| {
+        // Not 29: a file that is read has at most 1,048,576 bytes, and manner 1 takes no
+        // more bytes than the spelling it had. So 29 counts as a fault here.
+        vec![
+            on_files(Run::of(&TIDY).of_few(few), &written(), cases / 2, first),
+            outside_tidied(),
+            tidied_twice(cases / 10, first),
+        ]
+    }),
+    (&TEXT, |cases, first, few| {
+        let run = Run::holding(&TEXT, read_file).of_few(few);
+        vec![on_files(run, &written(), cases / 4, first), outside_texts()]
+    }),
+    (&FILE, |cases, first, few| {
+        vec![
+            on_texts(Run::holding(&FILE, read_text).of_few(few), cases / 4, first),
+            outside_back(),
+            files_forth_and_back(cases / 10, first),
+            texts_forth_and_back(cases / 10, first),
+        ]
+    }),
+    (&FOLD, |cases, first, few| {
+        vec![
+            on_tracks(Run::of(&FOLD).of_few(few), cases / 4, first),
+            outside_folded(),
+            folded_twice(cases / 10, first),
+        ]
+    }),
+    (&SHEET, |cases, first, few| vec![on_sung(Run::of(&SHEET).of_few(few), cases / 16, first)]),
+    (&TABLE, |cases, first, few| {
+        vec![
+            on_tables(Run::of(&TABLE).of_few(few), cases / 8, first),
+            saved_sheets(),
+            sheets_forth_and_back(cases / 20, first),
+        ]
+    }),
+];
+
+/// The numbers of an operation that reads a file and writes something else.
+fn written() -> Vec<u8> {
+    (0..=14).collect()
+}
+
 fn main() -> ExitCode {
-    let Some((cases, first)) = numbers_given() else {
+    let Some((cases, first, only)) = words_given() else {
         eprintln!("{USAGE}");
         return ExitCode::from(2);
     };
-    let read: Vec<u8> = (0..=13).collect();
-    // Not 29 of tidy: a file that is read has at most 1,048,576 bytes, and manner 1
-    // takes no more bytes than the spelling it had. So 29 counts as a fault here.
-    let written: Vec<u8> = (0..=14).collect();
-    let few = cases < CASES;
-    let good = [
-        on_files(Run::of(&CHECK).of_few(few), &read, cases, first),
-        on_files(Run::of(&TIDY).of_few(few), &written, cases / 2, first),
-        on_files(Run::holding(&TEXT, read_file).of_few(few), &written, cases / 4, first),
-        on_texts(Run::holding(&FILE, read_text).of_few(few), cases / 4, first),
-        on_tracks(Run::of(&FOLD).of_few(few), cases / 4, first),
-        outside_tidied(),
-        tidied_twice(cases / 10, first),
-        outside_texts(),
-        outside_back(),
-        files_forth_and_back(cases / 10, first),
-        texts_forth_and_back(cases / 10, first),
-        outside_folded(),
-        folded_twice(cases / 10, first),
-    ];
+    let mut good = Vec::new();
+    for (operation, part) in PARTS {
+        if only.iter().all(|only| only == operation.name) {
+            good.extend(part(cases, first, cases < CASES));
+        }
+    }
     if good.contains(&false) {
         return ExitCode::FAILURE;
     }
     ExitCode::SUCCESS
 }
 
-/// CASES and FIRST_SEED, if all seeds fit and no source is without cases.
-fn numbers_given() -> Option<(u64, u64)> {
-    let mut given = Vec::new();
-    for word in env::args().skip(1) {
-        given.push(word.parse::<u64>().ok()?);
+/// CASES, FIRST_SEED and the operation, if all seeds fit, no source is without cases and
+/// there is such an operation.
+fn words_given() -> Option<(u64, u64, Option<String>)> {
+    let mut words = env::args().skip(1);
+    let cases = words.next().map_or(Ok(CASES), |word| word.parse()).ok()?;
+    let first: u64 = words.next().map_or(Ok(0), |word| word.parse()).ok()?;
+    let only = words.next();
+    let known = |only: &String| PARTS.iter().any(|(operation, _)| operation.name == only);
+    if words.next().is_some() || !only.iter().all(known) {
+        return None;
     }
-    let (cases, first) = match given[..] {
-        [] => (CASES, 0),
-        [cases] => (cases, 0),
-        [cases, first] => (cases, first),
-        _ => return None,
-    };
-    first.checked_add(cases).filter(|_| cases >= LEAST).map(|_| (cases, first))
+    first.checked_add(cases).filter(|_| cases >= LEAST).map(|_| (cases, first, only))
 }
 
 /// Compares an operation that takes a file; `due` are the numbers to be met.
@@ -136,6 +200,54 @@ fn on_tracks(mut run: Run, cases: u64, first: u64) -> bool {
     // Not 27: no folded step is longer than one of the file. Not 37: it has rows enough.
     let due: Vec<u8> = (0..=14).chain([29, 31, 32, 33]).collect();
     run.report(&due)
+}
+
+/// Compares file_to_sheet: on files of texts, and on the same as the others.
+fn on_sung(mut run: Run, cases: u64, first: u64) -> bool {
+    const TIMES: u64 = 4;
+    let files = sheet_text_files();
+    run.source("texts", 0..TIMES * files.len() as u64, |seed| {
+        files[(seed / TIMES) as usize].clone()
+    });
+    run.source("sung", first..first + cases, |seed| sung_file(&mut Rng::new(seed)));
+    file_sources(&mut run, cases, first);
+    run.report(&written())
+}
+
+/// Compares sheet_to_text.
+fn on_tables(mut run: Run, cases: u64, first: u64) -> bool {
+    let stored: Vec<Vec<u8>> = saved_tables().into_iter().map(|saved| saved.table).collect();
+    let outside: Vec<Vec<u8>> =
+        outside_files().iter().map(|(name, _)| expected(name, "csv")).collect();
+    let long: Vec<Vec<u8>> = [small_benchmark_file(), benchmark_file()]
+        .iter()
+        .map(|file| sheet_of(&read_file(file).expect("the benchmark's file")))
+        .collect();
+
+    run.source("saved", first..first + cases / 4, saved_case);
+    run.source("damaged", first..first + cases / 2, damaged_table_case);
+    run.source("random", first..first + cases, random_table_case);
+    run.source("short", 0..short_tables(), short_table);
+    run.source("texts", first..first + cases / 4, text_case);
+    run.source("outside", 0..outside.len() as u64, |index| outside[index as usize].clone());
+    let count = stored.len() as u64;
+    run.source("stored", 0..count, |index| stored[index as usize].clone());
+    run.source("near stored", first..first + cases / 4, |seed| {
+        damaged_table(&mut Rng::new(seed), &stored[(seed % count) as usize])
+    });
+    // One in 32 is nearly 1 MiB long as a file.
+    run.source("long", first..first + cases / 1_000, |seed| {
+        let rng = &mut Rng::new(seed);
+        let sheet = saved(rng, &opened(&long[usize::from(seed % 32 == 0)]));
+        if rng.one_in(2) {
+            damaged_table(rng, &sheet)
+        } else {
+            sheet
+        }
+    });
+    run.table_limits("limits", &table_limit_cases());
+    on_kept(&mut run, "texts");
+    run.report(&[0, 14, 21, 38])
 }
 
 /// Compares text_to_file.
@@ -218,7 +330,7 @@ fn outside_texts() -> bool {
             files += 1;
             Ok(expected(&name, "csv"))
         };
-        let enough = TEXT.enough * file.len();
+        let enough = (TEXT.enough)(file.len());
         if made(archive::file_to_text, &file) != due || made_in(&file, enough) != due {
             faults += 1;
             println!("FAULT: outside file {name} has not midicsv's text");
@@ -324,6 +436,44 @@ fn folded_twice(cases: u64, first: u64) -> bool {
     }
     println!("fold: {count} generated files folded twice, {faults} faults");
     faults == 0 && count > 0
+}
+
+/// What spreadsheets saved of two sheets gives the pieces' files again.
+fn saved_sheets() -> bool {
+    let (mut count, mut faults) = (0, 0);
+    for saved in saved_tables() {
+        count += 1;
+        let text = made(archive::sheet_to_text, &saved.table);
+        if text.and_then(|text| filed(&text, 1)).as_ref() != Ok(&saved.file) {
+            faults += 1;
+            println!("FAULT: {} does not give its file", saved.name);
+        }
+    }
+    println!("sheet_to_text: {count} stored tables to file, {faults} faults");
+    faults == 0 && count > 0
+}
+
+/// A good file comes back from its sheet, saved in some way: tidied in manner 1, and in
+/// manner 0 as the second program writes it.
+fn sheets_forth_and_back(cases: u64, first: u64) -> bool {
+    let mut faults = 0;
+    for seed in first..first + cases {
+        let rng = &mut Rng::new(seed);
+        let file = sung_file(rng);
+        let full = write_file(&read_file(&file).expect("a good file"), Manner::Full);
+        let text = made(archive::file_to_sheet, &file)
+            .map(|sheet| saved(rng, &opened(&sheet)))
+            .and_then(|table| made(archive::sheet_to_text, &table));
+        let back = |manner| text.clone().and_then(|text| filed(&text, manner));
+        if back(1) != tidied(&file) || back(0).ok() != full {
+            faults += 1;
+            println!("FAULT: the file of seed {seed} does not come back from its sheet");
+        }
+    }
+    println!(
+        "sheet_to_text: {cases} files to sheet, saved, and back in 2 manners, {faults} faults"
+    );
+    faults == 0 && cases > 0
 }
 
 /// The file that the archive makes of a text.

@@ -1,4 +1,4 @@
-//! second check|to-text|to-midi|tidy|fold|list [-x] [IN [OUT]]
+//! second check|to-text|to-midi|tidy|fold|list|to-sheet|from-sheet [-x] [IN [OUT]]
 
 use std::fs::File;
 use std::io::{self, Read, Write};
@@ -7,9 +7,14 @@ use std::process::ExitCode;
 use second::fold::fold;
 use second::operations::{check, file_to_text, list_tracks, text_to_file, tidy};
 use second::refusal::Answer;
+use second::sheet::file_to_sheet;
+use second::table::sheet_to_text;
 
-const USAGE: &str = "usage: second check|to-text|to-midi|tidy|fold|list [-x] [IN [OUT]]
-  -x  to-midi: write every status byte (manner 0)
+const VERBS: [&str; 8] =
+    ["check", "to-text", "to-midi", "tidy", "fold", "list", "to-sheet", "from-sheet"];
+const USAGE: &str = "\
+usage: second check|to-text|to-midi|tidy|fold|list|to-sheet|from-sheet [-x] [IN [OUT]]
+  -x  to-midi, from-sheet: write every status byte (manner 0)
   -   or nothing: the standard stream";
 
 fn main() -> ExitCode {
@@ -19,9 +24,8 @@ fn main() -> ExitCode {
         words.remove(index);
     }
     let verb = words.first().map_or("", String::as_str);
-    let known = ["check", "to-text", "to-midi", "tidy", "fold", "list"].contains(&verb);
-    if !known || words.len() > 3 || words.iter().any(|word| word.len() > 1 && word.starts_with('-'))
-    {
+    let option = words.iter().any(|word| word.len() > 1 && word.starts_with('-'));
+    if !VERBS.contains(&verb) || words.len() > 3 || option {
         eprintln!("{USAGE}");
         return ExitCode::from(2);
     }
@@ -53,6 +57,9 @@ fn run(verb: &str, manner: u32, input: &str, output: &str) -> io::Result<Option<
         "to-midi" => with_room(|room| text_to_file(&bytes, manner, room)),
         "tidy" => with_room(|room| tidy(&bytes, room)),
         "fold" => with_room(|room| fold(&bytes, room)),
+        "to-sheet" => with_room(|room| file_to_sheet(&bytes, room)),
+        "from-sheet" => with_room(|room| sheet_to_text(&bytes, room))
+            .and_then(|text| with_room(|room| text_to_file(&text, manner, room))),
         _ => list(&bytes),
     };
     match made {
@@ -64,7 +71,7 @@ fn run(verb: &str, manner: u32, input: &str, output: &str) -> io::Result<Option<
 /// Asks with no room how much is needed, then again with as much.
 fn with_room(operation: impl Fn(&mut [u8]) -> Answer) -> Result<Vec<u8>, Answer> {
     let asked = operation(&mut []);
-    if asked.number != 14 {
+    if ![0, 14].contains(&asked.number) {
         return Err(asked);
     }
     let mut room = vec![0; asked.length];

@@ -14,6 +14,12 @@
 //! - `limit_cases()`, `text_limit_cases()`, `fold_limit_cases()`: files, texts and files
 //!   to be folded, at the limits of size and past them, by hand.
 //! - `mutated_copy(rng, file)`, `mutated_text(rng, text)`: with some bytes changed.
+//! - `sung_file(rng)`, `sung_piece(rng)`: with many texts of the sorts that a sheet knows;
+//!   `sheet_text_files()`: files of all short texts, of words and of long ones.
+//! - `opened(sheet)`, `typed(rng, piece)`, `saved(rng, rows)`: cells, and the ways in
+//!   which a spreadsheet saves them.
+//! - `saved_case(seed)`, `damaged_table_case(seed)`, `random_table_case(seed)`: tables;
+//!   `short_table(number)`: all short ones; `table_limit_cases()`: at the limits, by hand.
 
 mod aims;
 mod at_limit;
@@ -27,6 +33,10 @@ mod many_tracks;
 mod pieces;
 mod raw_file;
 mod rng;
+mod saving;
+mod sheet_texts;
+mod table_limits;
+mod tables;
 mod text_limits;
 mod text_lines;
 
@@ -41,6 +51,13 @@ pub use fold_limits::fold_limit_cases;
 pub use many_tracks::{many_tracks_case, many_tracks_piece};
 pub use pieces::{kind_of, piece, spelling, KINDS};
 pub use rng::Rng;
+pub use saving::{opened, saved, saved_in, typed, Cell, Padding, Row, Way, Whole};
+pub use sheet_texts::{sheet_text_files, sung_file, sung_piece};
+pub use table_limits::{table_limit_cases, LimitTable};
+pub use tables::{
+    damaged_table, damaged_table_case, random_table_case, saved_case, saved_piece, short_table,
+    short_tables,
+};
 pub use text_limits::{text_limit_cases, LimitText};
 pub use text_lines::{plain_text, varied_text};
 

@@ -8,6 +8,10 @@ use super::{Key, Run, Source, GENERATED, SHOWN};
 /// number but 30 and every room due.
 const MANNERS: [u32; 5] = [0, 1, 2, 255, u32::MAX];
 
+/// Not to be met in a room that is always enough: 14 does not come there, and for a table
+/// that is too long (38) such a room would take half a GiB.
+const NEVER_ENOUGH: [u8; 2] = [14, 38];
+
 impl Run<'_> {
     fn total(&self, wanted: impl Fn(&Key) -> bool) -> u64 {
         self.sources.iter().map(|source| source.count(&wanted)).sum()
@@ -52,7 +56,8 @@ impl Run<'_> {
     /// met.
     fn rooms(&self, due: &[u8]) -> Vec<String> {
         let mut kinds = Room::DUE.to_vec();
-        if self.operation.enough > 0 {
+        let enough_known = (self.operation.enough)(1) > 0;
+        if enough_known {
             kinds.extend([Room::Enough, Room::UnderEnough]);
         }
         for kind in kinds.iter().copied().chain([Room::Smaller, Room::Unused]) {
@@ -65,10 +70,11 @@ impl Run<'_> {
                 unmet.push(format!("{kind:?}"));
             }
         }
-        if self.operation.enough > 0 {
+        if enough_known {
             let enough =
                 |number: u8| self.total(|key| key.number == number && key.room == Room::Enough);
-            let due: Vec<u8> = due.iter().copied().filter(|number| *number != 14).collect();
+            let due: Vec<u8> =
+                due.iter().copied().filter(|number| !NEVER_ENOUGH.contains(number)).collect();
             let counts: Vec<String> =
                 due.iter().map(|number| format!("{number}: {}", enough(*number))).collect();
             println!("  numbers in room Enough: {}", counts.join(", "));

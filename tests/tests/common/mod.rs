@@ -9,6 +9,7 @@ use second::fold::{fold, Row};
 use second::operations::{file_to_text, text_to_file, tidy};
 use second::piece::Time;
 use second::refusal::Answer;
+use second::sheet::file_to_sheet;
 
 /// Bytes from hexadecimal digits; blanks are passed over.
 pub fn hex(digits: &str) -> Vec<u8> {
@@ -75,6 +76,10 @@ pub fn tidied(file: &[u8]) -> Result<Vec<u8>, Answer> {
 
 pub fn folded(file: &[u8]) -> Result<Vec<u8>, Answer> {
     with_room(|room| fold(file, room))
+}
+
+pub fn to_sheet(file: &[u8]) -> Result<Vec<u8>, Answer> {
+    with_room(|room| file_to_sheet(file, room))
 }
 
 /// A row as no fold leaves it.
