@@ -28,9 +28,9 @@
 #include <stdint.h>
 
 /* Of this header. noferkash_version() has that of the library. */
-#define NOFERKASH_VERSION "0.3.0"
+#define NOFERKASH_VERSION "0.4.0"
 #define NOFERKASH_VERSION_MAJOR 0
-#define NOFERKASH_VERSION_MINOR 3
+#define NOFERKASH_VERSION_MINOR 4
 #define NOFERKASH_VERSION_PATCH 0
 
 /* The largest file, read or written, the largest text read and the largest table, in bytes. */
@@ -163,13 +163,13 @@ uint64_t noferkash_tidy(const uint8_t *file, size_t file_len, uint8_t *out, size
  * NOFERKASH_TOO_FEW_ROWS never comes: here is a row for each of 64 tracks. */
 uint64_t noferkash_fold(const uint8_t *file, size_t file_len, uint8_t *out, size_t out_len);
 
-/* Writes the sheet form of the file's piece into the buffer `out`: its text, spelled so
- * that a spreadsheet opens it as a table and changes nothing in it. Fields are joined by
- * a comma without a blank, and in a text what a spreadsheet might take for something else
- * stands as a backslash and three octal digits (docs/SPREADSHEET.md). It is a text:
- * noferkash_text_to_file reads it, as a text of the same piece. NOFERKASH_OK and the
- * length written; bytes of `out` past it stay. The sheet form of a file of n bytes has at
- * most 23 * n bytes.
+/* Writes the sheet form of the file's piece into the buffer `out`: its text, spelled as a
+ * table that a spreadsheet opens and in which it finds nothing to change. Fields are joined
+ * by a comma without a blank, and what in a text might be taken for a number, a date, a
+ * formula or a boolean stands as a backslash and three octal digits (docs/SPREADSHEET.md).
+ * noferkash_text_to_file reads it, as a text of the same piece. NOFERKASH_OK and the length
+ * written; bytes of `out` past it stay. The sheet form of a file of n bytes has at most
+ * 23 * n bytes.
  *
  * Refusals, in this order; each leaves all of `out` as it was:
  * - numbers 1 to 13, as noferkash_check answers them;
@@ -200,7 +200,7 @@ uint64_t noferkash_sheet_to_text(const uint8_t *saved, size_t saved_len, uint8_t
  * track"; for every other number "unknown refusal number". */
 const char *noferkash_refusal_words(int number);
 
-/* The version of the library, as "0.3.0". */
+/* The version of the library, as "0.4.0". */
 const char *noferkash_version(void);
 
 #ifdef __cplusplus

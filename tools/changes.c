@@ -1,6 +1,6 @@
 /* Which lines of one text stand in another, too: a longest common subsequence, as diff finds
- * it, by the method of Hunt and Szymanski. Almost every record differs from all others by its
- * Track and Time; so a line has one twin or none, and the work is little more than sorting. */
+ * it, by the method of Hunt and Szymanski. Most records differ from all others by their Track
+ * and Time; so most lines have one twin or none, and the work is little more than sorting. */
 #include <stdlib.h>
 
 #include "explain/fields.h"
@@ -8,8 +8,8 @@
 
 /* A line with more twins in the new text is kept only beside others: so time and memory
  * stay in proportion to the texts, whatever they hold. */
-#define MOST_TWINS 4
-#define NONE ((size_t)-1)
+#define MOST_TWINS 16
+#define NONE UINT32_MAX
 
 /* A part of both texts. */
 struct range {
@@ -23,9 +23,10 @@ struct place {
     size_t at;
 };
 
-/* An old line and its twin, and the pair that comes before them. */
+/* An old line and its twin, and the pair that comes before them. There may be many: the text
+ * of a file has fewer than 2^20 lines, so 32 bits are enough. */
 struct pair {
-    size_t old, new, before;
+    uint32_t old, new, before;
 };
 
 /* Of each length, `ends` has the pair in which a common subsequence of that length ends
@@ -33,8 +34,9 @@ struct pair {
 struct search {
     struct place *sorted;
     struct pair *pairs;
-    size_t *ends;
-    size_t pair_count, longest;
+    uint32_t *ends;
+    uint32_t pair_count;
+    size_t longest;
 };
 
 static uint64_t hash_of(struct part line) {
@@ -126,8 +128,8 @@ static void add_pair(struct search *search, size_t old, size_t new) {
             greatest = middle;
         }
     }
-    size_t before = least > 0 ? search->ends[least - 1] : NONE;
-    search->pairs[search->pair_count] = (struct pair){old, new, before};
+    uint32_t before = least > 0 ? search->ends[least - 1] : NONE;
+    search->pairs[search->pair_count] = (struct pair){(uint32_t)old, (uint32_t)new, before};
     search->ends[least] = search->pair_count++;
     search->longest += least == search->longest;
 }
@@ -156,7 +158,7 @@ static void keep_longest(struct search *search, const struct range *range) {
     for (size_t old = 0; old < range->old_count; old++) {
         add_twins(search, range, old);
     }
-    size_t pair = search->longest > 0 ? search->ends[search->longest - 1] : NONE;
+    uint32_t pair = search->longest > 0 ? search->ends[search->longest - 1] : NONE;
     for (; pair != NONE; pair = search->pairs[pair].before) {
         keep(&range->old[search->pairs[pair].old], &range->new[search->pairs[pair].new]);
     }

@@ -73,7 +73,7 @@ static const char to_sheet[] =
     "       noferkash to-sheet [-f] -d FOLDER FILE...\n"
     "\n"
     "Writes the Standard MIDI File IN as a table, OUT or FOLDER/NAME.csv, that a spreadsheet\n"
-    "opens with its usual settings and in which it changes nothing.\n"
+    "opens with its usual settings. What it saves from-sheet reads.\n"
     "\n" FOLDER_OPTION REPLACING ". A MIDI file is never replaced by a table\n";
 
 static const char from_sheet[] =
