@@ -1,6 +1,6 @@
 //! Refusal numbers and answers.
 
-/// The refusal numbers of document 01, and those that document 02 adds.
+/// The refusal numbers of document 01, those that document 02 adds, and that of tables.
 #[derive(Clone, Copy, Debug, PartialEq, Eq, PartialOrd, Ord)]
 #[repr(u8)]
 pub enum Number {
@@ -32,6 +32,7 @@ pub enum Number {
     FormatTwo = 32,
     PrefixOrPort = 33,
     TooFewRows = 37,
+    TableTooLong = 38,
 }
 
 /// A refusal met in reading: bytes count from 0, lines from 1.
