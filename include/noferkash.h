@@ -28,14 +28,15 @@
 #include <stdint.h>
 
 /* Of this header. noferkash_version() has that of the library. */
-#define NOFERKASH_VERSION "0.3.0"
+#define NOFERKASH_VERSION "0.4.0"
 #define NOFERKASH_VERSION_MAJOR 0
-#define NOFERKASH_VERSION_MINOR 3
+#define NOFERKASH_VERSION_MINOR 4
 #define NOFERKASH_VERSION_PATCH 0
 
-/* The largest file, read or written, and the largest text read, in bytes. */
+/* The largest file, read or written, the largest text read and the largest table, in bytes. */
 #define NOFERKASH_FILE_LIMIT 1048576
 #define NOFERKASH_TEXT_LIMIT 33554432
+#define NOFERKASH_TABLE_LIMIT 268435456
 
 /* 0, or one of the refusal numbers. */
 #define NOFERKASH_NUMBER(answer) ((int)((uint64_t)(answer) >> 56))
@@ -87,7 +88,10 @@ enum noferkash_number {
     NOFERKASH_TOO_MANY_TRACKS = 31, /* over 64; 10 */
     NOFERKASH_FORMAT_2 = 32,        /* its tracks are pieces of their own; 8 */
     NOFERKASH_PREFIX_OR_PORT = 33,  /* Channel_prefix or MIDI_port in a piece of several tracks; event */
-    NOFERKASH_TOO_FEW_ROWS = 37     /* fewer rows than tracks, which noferkash_fold never answers; 10 */
+    NOFERKASH_TOO_FEW_ROWS = 37,    /* fewer rows than tracks, which noferkash_fold never answers; 10 */
+
+    /* Of tables that a spreadsheet saved. */
+    NOFERKASH_TABLE_TOO_LONG = 38 /* over 268,435,456 bytes; 0 */
 };
 
 /* Is this a good file? NOFERKASH_OK, or the earliest fault and its place.
@@ -159,6 +163,36 @@ uint64_t noferkash_tidy(const uint8_t *file, size_t file_len, uint8_t *out, size
  * NOFERKASH_TOO_FEW_ROWS never comes: here is a row for each of 64 tracks. */
 uint64_t noferkash_fold(const uint8_t *file, size_t file_len, uint8_t *out, size_t out_len);
 
+/* Writes the sheet form of the file's piece into the buffer `out`: its text, spelled as a
+ * table that a spreadsheet opens and in which it finds nothing to change. Fields are joined
+ * by a comma without a blank, and what in a text might be taken for a number, a date, a
+ * formula or a boolean stands as a backslash and three octal digits (docs/SPREADSHEET.md).
+ * noferkash_text_to_file reads it, as a text of the same piece. NOFERKASH_OK and the length
+ * written; bytes of `out` past it stay. The sheet form of a file of n bytes has at most
+ * 23 * n bytes.
+ *
+ * Refusals, in this order; each leaves all of `out` as it was:
+ * - numbers 1 to 13, as noferkash_check answers them;
+ * - NOFERKASH_ROOM_TOO_SMALL when out_len is under the length needed, which the
+ *   answer gives. So NULL and out_len 0 ask for it. */
+uint64_t noferkash_file_to_sheet(const uint8_t *file, size_t file_len, uint8_t *out, size_t out_len);
+
+/* Writes the text of a table that a spreadsheet saved into the buffer `out`: line n of
+ * the text is row n of the table. Separators (commas, semicolons or tabs), quotes, a byte
+ * order mark, CR before LF and empty cells are taken as spreadsheets write them
+ * (docs/SPREADSHEET.md). There is a text of any bytes whatever, and no row is refused
+ * here: noferkash_text_to_file refuses it, at that line. NOFERKASH_OK and the length
+ * written; bytes of `out` past it stay. The text of a table of n bytes has at most
+ * 2 * n + 1 bytes.
+ *
+ * Refusals, in this order; each leaves all of `out` as it was:
+ * - NOFERKASH_TABLE_TOO_LONG over 268,435,456 bytes;
+ * - NOFERKASH_TEXT_TOO_LONG when the text would pass 33,554,432 bytes;
+ * - NOFERKASH_ROOM_TOO_SMALL when out_len is under the length needed, which the
+ *   answer gives. So NULL and out_len 0 ask for it; only a table of no bytes, or of a
+ *   byte order mark alone, has an empty text, which fits there. */
+uint64_t noferkash_sheet_to_text(const uint8_t *saved, size_t saved_len, uint8_t *out, size_t out_len);
+
 /* The two functions below are plain C, tested and not proved. The strings that they
  * return are never NULL and must not be freed. */
 
@@ -166,7 +200,7 @@ uint64_t noferkash_fold(const uint8_t *file, size_t file_len, uint8_t *out, size
  * track"; for every other number "unknown refusal number". */
 const char *noferkash_refusal_words(int number);
 
-/* The version of the library, as "0.3.0". */
+/* The version of the library, as "0.4.0". */
 const char *noferkash_version(void);
 
 #ifdef __cplusplus

@@ -36,6 +36,8 @@ static const char *const words[] = {
     [NOFERKASH_FORMAT_2] = "format 2 cannot be folded",
     [NOFERKASH_PREFIX_OR_PORT] = "tracks with Channel_prefix or MIDI_port cannot be folded",
     [NOFERKASH_TOO_FEW_ROWS] = "fewer rows than tracks to fold",
+
+    [NOFERKASH_TABLE_TOO_LONG] = "table over 268,435,456 bytes",
 };
 
 const char *noferkash_refusal_words(int number) {

@@ -21,29 +21,53 @@ static int take_flag(char flag, struct request *request) {
     int converts = request->command != CHECK;
     if (flag == 'x') {
         request->manner = 0;
-        return request->command == TO_MIDI || wrong_usage("-x goes only with to-midi", "", "");
+        return request->command == TO_MIDI || request->command == FROM_SHEET ||
+               wrong_usage("-x goes only with to-midi and from-sheet", "", "");
     }
     if (flag == 'v') {
         request->verbose = 1;
         return !converts || wrong_usage("-v goes only with check", "", "");
     }
     request->force = 1;
-    return converts || wrong_usage("-f goes only with to-text, to-midi, tidy and fold", "", "");
+    return converts || wrong_usage("-f goes only with commands that write", "", "");
+}
+
+/* Options that a word follows. */
+static int wants_word(const char *option) {
+    return strcmp(option, "-d") == 0 || strcmp(option, "--against") == 0;
+}
+
+/* A -f that was meant as an option must not become the name of a file or folder. */
+static int is_name(const char *word) {
+    return word != NULL && word[0] != '-';
 }
 
 static int take_folder(const char *folder, struct request *request) {
     if (request->command == CHECK) {
-        return wrong_usage("-d goes only with to-text, to-midi, tidy and fold", "", "");
+        return wrong_usage("-d goes only with commands that write", "", "");
     }
     if (request->folder != NULL) {
         return wrong_usage("-d stands twice", "", "");
     }
-    /* A -f that was meant as an option must not become a folder. */
-    if (folder == NULL || folder[0] == '-') {
-        return wrong_usage("-d wants a folder", "", "");
-    }
     request->folder = folder;
-    return 1;
+    return is_name(folder) || wrong_usage("-d wants a folder", "", "");
+}
+
+static int take_against(const char *old, struct request *request) {
+    if (request->command != FROM_SHEET) {
+        return wrong_usage("--against goes only with from-sheet", "", "");
+    }
+    if (request->against != NULL) {
+        return wrong_usage("--against stands twice", "", "");
+    }
+    request->against = old;
+    return is_name(old) || wrong_usage("--against wants a file", "", "");
+}
+
+static int take_text(struct request *request) {
+    request->as_text = 1;
+    return request->command == FROM_SHEET ||
+           wrong_usage("--text goes only with from-sheet", "", "");
 }
 
 static enum taken take_option(const char *word, const char *next, struct request *request) {
@@ -53,6 +77,10 @@ static enum taken take_option(const char *word, const char *next, struct request
     }
     if (strcmp(word, "-d") == 0) {
         good = take_folder(next, request);
+    } else if (strcmp(word, "--against") == 0) {
+        good = take_against(next, request);
+    } else if (strcmp(word, "--text") == 0) {
+        good = take_text(request);
     } else if (strchr("xvf", word[1]) != NULL && word[2] == '\0') {
         good = take_flag(word[1], request);
     } else {
@@ -75,7 +103,7 @@ static enum taken take_options(char **words, int count, int *operands, struct re
             ended = 1;
         } else {
             taken = take_option(word, i + 1 < count ? words[i + 1] : NULL, request);
-            i += strcmp(word, "-d") == 0;
+            i += wants_word(word);
         }
         if (taken != TAKEN) {
             return taken;
@@ -103,10 +131,16 @@ static int take_names(char **names, size_t count, struct request *request) {
     if (request->folder != NULL && standard_inputs(request) > 0) {
         return wrong_usage("standard input has no name to keep", "", "");
     }
+    if (request->against != NULL && request->count > 1) {
+        return wrong_usage("--against goes with one file", "", "");
+    }
     return 1;
 }
 
 static int take_operands(char **operands, size_t count, struct request *request) {
+    if (request->as_text && request->manner == 0) {
+        return wrong_usage("-x does not go with --text", "", "");
+    }
     if (request->command == CHECK) {
         return take_names(operands, count, request);
     }

@@ -12,11 +12,22 @@
 /* Endings that a converted file leaves behind. Any other is part of its name. */
 static const char *const file_endings[] = {".mid", ".midi", ".kar", ".smf", ".rmi", NULL};
 static const char *const text_endings[] = {".csv", ".txt", NULL};
+static const char *const table_endings[] = {".csv", ".txt", ".tsv", NULL};
+
+static const char *const *endings_of(enum command command) {
+    switch (command) {
+    case TO_MIDI:
+        return text_endings;
+    case FROM_SHEET:
+        return table_endings;
+    default:
+        return file_endings;
+    }
+}
 
 static size_t stem_length(enum command command, const char *name) {
     size_t length = strlen(name);
-    const char *const *ending = command == TO_MIDI ? text_endings : file_endings;
-    for (; *ending != NULL; ending++) {
+    for (const char *const *ending = endings_of(command); *ending != NULL; ending++) {
         size_t shorter = strlen(*ending);
         if (length > shorter && strcasecmp(name + length - shorter, *ending) == 0) {
             return length - shorter;
@@ -25,15 +36,15 @@ static size_t stem_length(enum command command, const char *name) {
     return length;
 }
 
-char *name_in_folder(const char *folder, const char *name, enum command command) {
+char *name_in_folder(const struct request *request, const char *name) {
     const char *slash = strrchr(name, '/');
     const char *last = slash == NULL ? name : slash + 1;
-    const char *ending = command == TO_TEXT ? ".csv" : ".mid";
-    size_t stem = stem_length(command, last);
-    size_t room = strlen(folder) + 1 + stem + strlen(ending) + 1;
+    const char *ending = writes_text(request) ? ".csv" : ".mid";
+    size_t stem = stem_length(request->command, last);
+    size_t room = strlen(request->folder) + 1 + stem + strlen(ending) + 1;
     char *path = malloc(room);
     if (path != NULL) {
-        snprintf(path, room, "%s/%.*s%s", folder, (int)stem, last, ending);
+        snprintf(path, room, "%s/%.*s%s", request->folder, (int)stem, last, ending);
     }
     return path;
 }

@@ -1,7 +1,8 @@
 /* What the command line tool says of itself. */
 #include "tool.h"
 
-static const char *const names[COMMANDS] = {"check", "to-text", "to-midi", "tidy", "fold"};
+static const char *const names[COMMANDS] = {"check",      "to-text", "to-midi", "to-sheet",
+                                            "from-sheet", "tidy",    "fold"};
 
 enum command command_named(const char *name) {
     int command = 0;
@@ -12,18 +13,23 @@ enum command command_named(const char *name) {
 }
 
 static const char all[] =
-    "usage: noferkash check   [-v]      [FILE...]\n"
-    "       noferkash to-text [-f]      [IN [OUT]]  |  -d FOLDER FILE...\n"
-    "       noferkash to-midi [-f] [-x] [IN [OUT]]  |  -d FOLDER FILE...\n"
-    "       noferkash tidy    [-f]      [IN [OUT]]  |  -d FOLDER FILE...\n"
-    "       noferkash fold    [-f]      [IN [OUT]]  |  -d FOLDER FILE...\n"
+    "usage: noferkash check      [-v]      [FILE...]\n"
+    "       noferkash to-text    [-f]      [IN [OUT]]  |  -d FOLDER FILE...\n"
+    "       noferkash to-midi    [-f] [-x] [IN [OUT]]  |  -d FOLDER FILE...\n"
+    "       noferkash to-sheet   [-f]      [IN [OUT]]  |  -d FOLDER FILE...\n"
+    "       noferkash from-sheet [-f] [-x] [IN [OUT]]  |  -d FOLDER FILE...\n"
+    "                            [--text] [--against OLD]\n"
+    "       noferkash tidy       [-f]      [IN [OUT]]  |  -d FOLDER FILE...\n"
+    "       noferkash fold       [-f]      [IN [OUT]]  |  -d FOLDER FILE...\n"
     "       noferkash help [COMMAND] | --version\n"
     "\n"
-    "  check    says whether each FILE is a good Standard MIDI File\n"
-    "  to-text  writes a Standard MIDI File as MIDICSV text\n"
-    "  to-midi  writes a MIDICSV text as a Standard MIDI File\n"
-    "  tidy     writes a Standard MIDI File again in the fewest bytes\n"
-    "  fold     writes it again with all its tracks in one, as format 0\n"
+    "  check       says whether each FILE is a good Standard MIDI File\n"
+    "  to-text     writes a Standard MIDI File as MIDICSV text\n"
+    "  to-midi     writes a MIDICSV text as a Standard MIDI File\n"
+    "  to-sheet    writes a Standard MIDI File as a table for a spreadsheet\n"
+    "  from-sheet  writes the table that a spreadsheet saved as a Standard MIDI File\n"
+    "  tidy        writes a Standard MIDI File again in the fewest bytes\n"
+    "  fold        writes it again with all its tracks in one, as format 0\n"
     "\n"
     "IN and OUT are standard input and output where left out or \"-\". An existing\n"
     "file is replaced only with -f. Exit status: 0 good; 1 refused, with a line for each\n"
@@ -62,6 +68,29 @@ static const char to_midi[] =
     "\n" FOLDER_OPTION REPLACING "\n"
     "  -x         full: writes every status byte; without it those that repeat are left out\n";
 
+static const char to_sheet[] =
+    "usage: noferkash to-sheet [-f] [IN [OUT]]\n"
+    "       noferkash to-sheet [-f] -d FOLDER FILE...\n"
+    "\n"
+    "Writes the Standard MIDI File IN as a table, OUT or FOLDER/NAME.csv, that a spreadsheet\n"
+    "opens with its usual settings. What it saves from-sheet reads.\n"
+    "\n" FOLDER_OPTION REPLACING ". A MIDI file is never replaced by a table\n";
+
+static const char from_sheet[] =
+    "usage: noferkash from-sheet [-f] [-x | --text] [--against OLD] [IN [OUT]]\n"
+    "       noferkash from-sheet [-f] [-x | --text] -d FOLDER FILE...\n"
+    "\n"
+    "Writes the table IN, as a spreadsheet saved it, as a Standard MIDI File, OUT or\n"
+    "FOLDER/NAME.mid. A refusal names the row. A row whose text is TRUE, or such a word of\n"
+    "another language, is told on standard error: the spreadsheet may have put it there.\n"
+    "\n" FOLDER_OPTION REPLACING "\n"
+    "  -x         full: writes every status byte; without it those that repeat are left out\n"
+    "  --text     writes MIDICSV text, OUT or FOLDER/NAME.csv, a line for each row. A table\n"
+    "             that has no Standard MIDI File is refused all the same\n"
+    "  --against OLD\n"
+    "             lists the records that differ from those of the Standard MIDI File OLD, on\n"
+    "             standard output, or on standard error where OUT is standard output\n";
+
 static const char tidy[] =
     "usage: noferkash tidy [-f] [IN [OUT]]\n"
     "       noferkash tidy [-f] -d FOLDER FILE...\n"
@@ -79,7 +108,8 @@ static const char fold[] =
     "\n" FOLDER_OPTION REPLACING "\n";
 
 const char *help_for(enum command command) {
-    static const char *const texts[COMMANDS + 1] = {check, to_text, to_midi, tidy, fold, all};
+    static const char *const texts[COMMANDS + 1] = {check,      to_text, to_midi, to_sheet,
+                                                    from_sheet, tidy,    fold,    all};
     return texts[command];
 }
 

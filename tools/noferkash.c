@@ -17,7 +17,7 @@ static enum taken take(int argc, char **argv, struct request *request) {
 }
 
 int main(int argc, char **argv) {
-    struct request request = {CHECK, 1, 0, 0, NULL, "-", NULL, 0};
+    struct request request = {.command = CHECK, .manner = 1, .out = "-"};
     switch (take(argc, argv, &request)) {
     case HELPED:
         return GOOD;

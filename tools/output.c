@@ -54,7 +54,7 @@ static int is_midi(struct bytes held) {
 
 /* Why a regular file is not to be replaced; NULL if it may be. */
 static const char *objection(const struct request *request, struct bytes held, int in_place) {
-    if (is_midi(held) && request->command == TO_TEXT) {
+    if (is_midi(held) && writes_text(request)) {
         return "is a MIDI file; nothing was written";
     }
     if (request->force || in_place || held.length == 0) {
@@ -135,15 +135,27 @@ static int replace(const struct request *request, const char *name, const struct
     return good;
 }
 
-static int put_standard(const struct request *request, struct bytes made, const struct input *in) {
+static int is_where_output_goes(const struct stat *file) {
+    struct stat status;
+    return fstat(STDOUT_FILENO, &status) == 0 && status.st_dev == file->st_dev &&
+           status.st_ino == file->st_ino;
+}
+
+int is_standard_output(const char *name) {
+    struct stat status;
+    return is_standard(name) || (stat(name, &status) == 0 && is_where_output_goes(&status));
+}
+
+static int put_standard(const struct request *request, struct bytes made,
+                        const struct files *files) {
     struct stat status;
     /* The shell opens it, as in >>, and has not asked us. */
     if (fstat(STDOUT_FILENO, &status) == 0 && S_ISREG(status.st_mode) &&
-        is_same(&in->identity, &status)) {
+        is_among(files, &status)) {
         return say_kept("standard output", "is the file that is read; nothing was written");
     }
     /* On a terminal the bytes of a MIDI file help nobody: who forgot OUT is told so. */
-    if (request->command != TO_TEXT && isatty(STDOUT_FILENO)) {
+    if (!writes_text(request) && isatty(STDOUT_FILENO)) {
         return say_kept("standard output", "is a terminal; nothing was written (name OUT)");
     }
     return write_standard_output(made.at, made.length) || say_failed("standard output");
@@ -152,11 +164,9 @@ static int put_standard(const struct request *request, struct bytes made, const 
 /* By a name such as /dev/stdout. Renaming would take the file from those who have it
  * open; so standard output is written as such, and no other is. */
 static int put_open_file(const struct request *request, const char *name, const struct stat *old,
-                         struct bytes made, const struct input *in) {
-    struct stat status;
-    if (fstat(STDOUT_FILENO, &status) == 0 && status.st_dev == old->st_dev &&
-        status.st_ino == old->st_ino) {
-        return put_standard(request, made, in);
+                         struct bytes made, const struct files *files) {
+    if (is_where_output_goes(old)) {
+        return put_standard(request, made, files);
     }
     return say_kept(name, "is an open file; nothing was written (name the file itself)");
 }
@@ -165,13 +175,13 @@ static int put(const struct request *request, const char *name, struct bytes mad
                const struct input *in, struct files *files) {
     struct stat old;
     if (is_standard(name)) {
-        return put_standard(request, made, in);
+        return put_standard(request, made, files);
     }
     if (stat(name, &old) != 0) {
         return errno == ENOENT ? create(name, made, files) : say_failed(name);
     }
     if (S_ISREG(old.st_mode)) {
-        return is_open_file(name) ? put_open_file(request, name, &old, made, in)
+        return is_open_file(name) ? put_open_file(request, name, &old, made, files)
                                   : replace(request, name, &old, made, in, files);
     }
     if (S_ISBLK(old.st_mode)) {

@@ -5,28 +5,31 @@
 #include <stdlib.h>
 #include <unistd.h>
 
-#include "explain/explain.h"
 #include "tool.h"
 
 const char *program = "noferkash";
 
-/* Said where there is no memory to show a name in. */
-static char not_shown[] = "(a name)";
+/* Said where there is no memory to show it. */
+static char not_shown[] = "(not shown)";
 
-/* A line feed in the name of a file must not make two lines of one message, nor an
- * escape change the terminal. */
-static char *escape(const char *text) {
+char *show_all(const uint8_t *bytes, size_t length) {
     /* A backslash and three digits for each byte at most, and more than nothing. */
-    size_t most = 4 * strlen(text) + 2;
+    size_t most = 4 * length + 2;
     char *shown = malloc(most + 1);
     if (shown == NULL) {
         return not_shown;
     }
-    show_bytes((const uint8_t *)text, strlen(text), most, shown);
+    show_bytes(bytes, length, most, shown);
     return shown;
 }
 
-static void release(char *shown) {
+/* A line feed in the name of a file must not make two lines of one message, nor an
+ * escape change the terminal. */
+static char *escape(const char *text) {
+    return show_all((const uint8_t *)text, strlen(text));
+}
+
+void release(char *shown) {
     if (shown != not_shown) {
         free(shown);
     }

@@ -2,6 +2,7 @@
 #include "noferkash.h"
 
 #include <stdio.h>
+#include <stdlib.h>
 #include <string.h>
 
 #include "cases.h"
@@ -63,6 +64,8 @@ struct operation {
 static const struct operation tidy = {"tidy", noferkash_tidy};
 static const struct operation fold = {"fold", noferkash_fold};
 static const struct operation to_text = {"file_to_text", noferkash_file_to_text};
+static const struct operation to_sheet = {"file_to_sheet", noferkash_file_to_sheet};
+static const struct operation from_sheet = {"sheet_to_text", noferkash_sheet_to_text};
 
 /* The manner in which `to_file` runs. */
 static uint32_t manner;
@@ -238,6 +241,77 @@ static void read_cases(void)
     }
 }
 
+/* The sheet of a file made by `fill`, in which nothing is longer than in its text. */
+static void sheet_limit_cases(uint8_t *file)
+{
+    static char sheet[3 * LIMIT + 200];
+    const uint8_t *due = (const uint8_t *)sheet;
+    size_t length = text_of_filled(sheet, LIMIT), from, to = 0;
+
+    for (from = 0; from < length; from++)
+        if (sheet[from] != ' ')
+            sheet[to++] = sheet[from];
+    length = to;
+    fill(file, LIMIT);
+    try_written(&to_sheet, "good, the limit", file, LIMIT, length, NOFERKASH_OK, 0, due, length);
+    try_written(&to_sheet, "good, the limit", file, LIMIT, 23 * LIMIT, NOFERKASH_OK, 0, due,
+                length);
+    try_written(&to_sheet, "good, the limit", file, LIMIT, length - 1, NOFERKASH_ROOM_TOO_SMALL, 0,
+                due, length);
+    try_written(&from_sheet, "its sheet", due, length, length, NOFERKASH_OK, 0, due, length);
+    file[LIMIT - 1] = 1;
+    try_written(&to_sheet, "fault in the last byte", file, LIMIT, length,
+                NOFERKASH_BAD_META_LENGTH, LIMIT - 4, due, 0);
+    fill(file, LIMIT + 1);
+    try_written(&to_sheet, "good but one over the limit", file, LIMIT + 1, 23 * LIMIT,
+                NOFERKASH_FILE_TOO_LONG, 0, due, 0);
+}
+
+/* A table that is longer than any other input, so its bytes are not looked at afterwards. */
+static void try_long(const char *what, const uint8_t *table, size_t length, size_t room, int number,
+                     size_t written)
+{
+    static uint8_t lent[FENCE + 8 + FENCE];
+    struct due due = {number, 0, written};
+    uint8_t *out = lent + FENCE;
+    uint64_t answer;
+    int good;
+
+    memset(lent, GUARD, sizeof lent);
+    answer = noferkash_sheet_to_text(table, length, out, room);
+    written = number == NOFERKASH_OK ? written : 0;
+    good = is_due(answer, due) && untouched(lent, out) &&
+           untouched(out + written, lent + sizeof lent);
+    report("sheet_to_text", room, what, answer, due, good);
+}
+
+static void table_limit_cases(void)
+{
+    uint8_t *table = malloc(TABLE_LIMIT + 1);
+
+    if (table == NULL) {
+        printf("no memory for a table\n");
+        failed++;
+        return;
+    }
+    /* A row of empty cells is an empty line. */
+    memset(table, ',', TABLE_LIMIT + 1);
+    try_long("empty cells, the limit", table, TABLE_LIMIT, 8, NOFERKASH_OK, 1);
+    try_long("empty cells, the limit, no room", table, TABLE_LIMIT, 0, NOFERKASH_ROOM_TOO_SMALL,
+             1);
+    try_long("empty cells, past the limit", table, TABLE_LIMIT + 1, 8, NOFERKASH_TABLE_TOO_LONG,
+             0);
+    try_long("past the limit, no room", table, TABLE_LIMIT + 1, 0, NOFERKASH_TABLE_TOO_LONG, 0);
+    table[0] = '#';
+    try_long("a note whose text has the limit", table, READ_LIMIT - 1, 8,
+             NOFERKASH_ROOM_TOO_SMALL, READ_LIMIT);
+    try_long("a note whose text passes it", table, READ_LIMIT, 8, NOFERKASH_TEXT_TOO_LONG, 0);
+    try_long("such a note, no room", table, READ_LIMIT, 0, NOFERKASH_TEXT_TOO_LONG, 0);
+    try_long("such a note, past the table's limit", table, TABLE_LIMIT + 1, 0,
+             NOFERKASH_TABLE_TOO_LONG, 0);
+    free(table);
+}
+
 /* A file of `length` bytes with data as `fill` makes it, its length in three bytes;
  * and its text, whose length is the answer. */
 static size_t filled_and_text(uint8_t *file, char *text, size_t length)
@@ -301,6 +375,10 @@ int main(void)
     fold_track_cases(file);
     try_cases(&to_text, text_cases, sizeof text_cases / sizeof text_cases[0]);
     text_limit_cases(file);
+    try_cases(&to_sheet, sheet_cases, sizeof sheet_cases / sizeof sheet_cases[0]);
+    sheet_limit_cases(file);
+    try_cases(&from_sheet, table_cases, sizeof table_cases / sizeof table_cases[0]);
+    table_limit_cases();
     read_cases();
     read_limit_cases(file);
 

@@ -7,6 +7,7 @@
 #define LIMIT 1048576
 #define TEXT_LIMIT (25 * LIMIT)
 #define READ_LIMIT 33554432
+#define TABLE_LIMIT 268435456
 
 #define HEADER "MThd\0\0\0\6\0\0\0\1\0\x60"
 #define CHUNK(length, body) "MTrk\0\0\0" length body
@@ -251,6 +252,103 @@ static const struct written_case text_cases[] = {
     {"byte after the last track", BYTES(FULL "\0"), 25 * 41, NOFERKASH_BYTES_AFTER_LAST_TRACK, 40,
      NOTHING},
     {"a fault, and no room", BYTES(FULL "\0"), 0, NOFERKASH_BYTES_AFTER_LAST_TRACK, 40, NOTHING}
+};
+
+/* The sheet form: no blanks between fields, and texts spelled for spreadsheets. */
+#define SHEET(lines) "0,0,Header,0,1,96\n1,0,Start_track\n" lines "1,0,End_track\n0,0,End_of_file\n"
+#define EXAMPLE_SHEET \
+    "0,0,Header,0,1,96\n1,0,Start_track\n1,0,Title_t,\"A\\042\"\n1,0,Note_on_c,0,60,64\n" \
+    "1,96,Note_on_c,0,60,0\n1,96,End_track\n0,0,End_of_file\n"
+#define EVERY_KIND_ROWS \
+    "1,0,Note_off_c,0,0,127\n1,0,Note_on_c,1,60,0\n1,0,Poly_aftertouch_c,2,1,2\n" \
+    "1,0,Control_c,3,7,100\n1,0,Program_c,4,127\n1,0,Channel_aftertouch_c,5,0\n" \
+    "1,0,Pitch_bend_c,6,8192\n1,0,Pitch_bend_c,6,16383\n1,0,System_exclusive,3,67,18,247\n" \
+    "1,0,System_exclusive_packet,1,255\n1,0,Sequence_number,65534\n1,0,Text_t,\"t\"\n" \
+    "1,0,Copyright_t,\"c\"\n1,0,Title_t,\"n\"\n1,0,Instrument_name_t,\"i\"\n1,0,Lyric_t,\"l\"\n" \
+    "1,0,Marker_t,\"m\"\n1,0,Cue_point_t,\"\"\n1,0,Channel_prefix,255\n1,0,MIDI_port,16\n" \
+    "1,0,Tempo,750000\n1,0,SMPTE_offset,255,0,1,2,99\n1,0,Time_signature,6,3,36,8\n" \
+    "1,0,Key_signature,-3,\"minor\"\n1,0,Key_signature,7,\"major\"\n" \
+    "1,0,Sequencer_specific,2,0,10\n1,0,Unknown_meta_event,96,0\n1,0,Unknown_meta_event,8,1,100\n"
+/* A lyric of so many bytes, and how its cell spells it. */
+#define LYRIC(track, count, text) TRACK(track, "\0\xFF\5" count text END)
+#define SPELLED(track, count, text, cell) \
+    BYTES(LYRIC(track, count, text)), 200, NOFERKASH_OK, 0, BYTES(SHEET("1,0,Lyric_t,\"" cell "\"\n"))
+
+/* 129 bytes of sheet for 39 of file, of which 23 times 39 are always enough. */
+static const struct written_case sheet_cases[] = {
+    {"the example of document 01", BYTES(SHORT), 129, NOFERKASH_OK, 0, BYTES(EXAMPLE_SHEET)},
+    {"the example in manner 0", BYTES(FULL), 129, NOFERKASH_OK, 0, BYTES(EXAMPLE_SHEET)},
+    {"room larger", BYTES(SHORT), 200, NOFERKASH_OK, 0, BYTES(EXAMPLE_SHEET)},
+    {"room that is always enough", BYTES(SHORT), 897, NOFERKASH_OK, 0, BYTES(EXAMPLE_SHEET)},
+    {"room one byte under that", BYTES(SHORT), 896, NOFERKASH_OK, 0, BYTES(EXAMPLE_SHEET)},
+    {"room one short", BYTES(SHORT), 128, NOFERKASH_ROOM_TOO_SMALL, 0, BYTES(EXAMPLE_SHEET)},
+    {"room of one byte", BYTES(SHORT), 1, NOFERKASH_ROOM_TOO_SMALL, 0, BYTES(EXAMPLE_SHEET)},
+    {"room of none", BYTES(SHORT), 0, NOFERKASH_ROOM_TOO_SMALL, 0, BYTES(EXAMPLE_SHEET)},
+    {"only End_track", BYTES(ONLY_END), 23 * 26, NOFERKASH_OK, 0, BYTES(SHEET(""))},
+    {"every kind", BYTES(TRACK("\x90", EVERY_KIND END)), 2000, NOFERKASH_OK, 0,
+     BYTES(SHEET(EVERY_KIND_ROWS))},
+    {"letters and marks", SPELLED("\21", "\11", "a-Z_'tis!", "a-Z_'tis!")},
+    {"a mark first", SPELLED("\14", "\4", "-lu-", "\\055lu-")},
+    {"a comma and a blank inside", SPELLED("\21", "\11", "jah, amen", "jah, amen")},
+    {"a blank first, two last", SPELLED("\14", "\4", " a  ", "\\040a \\040")},
+    {"a blank last", SPELLED("\14", "\4", "Ich ", "Ich ")},
+    {"a comma last", SPELLED("\13", "\3", "ah,", "ah\\054")},
+    {"a blank after a comma last", SPELLED("\14", "\4", "la, ", "la,\\040")},
+    {"digits, signs, a tab", SPELLED("\20", "\10", "=1;\"\\\t#/", "\\075\\061\\073\\042\\134\\011\\043\\057")},
+    {"bytes from 127 on", SPELLED("\14", "\4", "n\x7F\x80\xFF", "n\\177\\200\\377")},
+    {"a word for a boolean", SPELLED("\14", "\4", "wAhr", "wAh\\162")},
+    {"such a word and a blank", SPELLED("\15", "\5", "TRUE ", "TRUE\\040")},
+    {"no such word", SPELLED("\14", "\4", "Amen", "Amen")},
+    {"two tracks, Times of their own",
+     BYTES(TWO_TRACKS CHUNK("\10", "\7\x90\x3C\x40" END)
+           CHUNK("\13", "\1\x91\x3C\0\2\x3C\0" "\3\xFF\x2F\0")), 300, NOFERKASH_OK, 0,
+     BYTES("0,0,Header,1,2,96\n1,0,Start_track\n1,7,Note_on_c,0,60,64\n1,7,End_track\n"
+           "2,0,Start_track\n2,1,Note_on_c,1,60,0\n2,3,Note_on_c,1,60,0\n2,6,End_track\n"
+           "0,0,End_of_file\n")},
+
+    {"empty file", BYTES(""), 40, NOFERKASH_FILE_CUT_SHORT, 0, NOTHING},
+    {"film division", BYTES("MThd\0\0\0\6\0\0\0\1\xE7\x28" CHUNK("\4", END)), 1000,
+     NOFERKASH_BAD_HEADER, 12, NOTHING},
+    {"Tempo 0 after notes",
+     BYTES(TRACK("\23", "\0\x90\x3C\x40\0\x90\x3C\0\0\xFF\x51\3\0\0\0" END)), 23 * 41,
+     NOFERKASH_BAD_META_VALUE, 30, NOTHING},
+    {"byte after the last track", BYTES(FULL "\0"), 23 * 41, NOFERKASH_BYTES_AFTER_LAST_TRACK, 40,
+     NOTHING},
+    {"a fault, and no room", BYTES(FULL "\0"), 0, NOFERKASH_BYTES_AFTER_LAST_TRACK, 40, NOTHING}
+};
+
+/* A table becomes a text, and no row is refused; room of twice its length and one is enough. */
+#define MARK "\xEF\xBB\xBF"
+#define ROW(saved, line) \
+    BYTES(saved), 2 * (sizeof(saved) - 1) + 1, NOFERKASH_OK, 0, BYTES(line "\n")
+
+static const struct written_case table_cases[] = {
+    {"the example's sheet", BYTES(EXAMPLE_SHEET), 129, NOFERKASH_OK, 0, BYTES(EXAMPLE_SHEET)},
+    {"room larger", BYTES(EXAMPLE_SHEET), 300, NOFERKASH_OK, 0, BYTES(EXAMPLE_SHEET)},
+    {"room one short", BYTES(EXAMPLE_SHEET), 128, NOFERKASH_ROOM_TOO_SMALL, 0,
+     BYTES(EXAMPLE_SHEET)},
+    {"room of one byte", BYTES(EXAMPLE_SHEET), 1, NOFERKASH_ROOM_TOO_SMALL, 0,
+     BYTES(EXAMPLE_SHEET)},
+    {"room of none", BYTES(EXAMPLE_SHEET), 0, NOFERKASH_ROOM_TOO_SMALL, 0, BYTES(EXAMPLE_SHEET)},
+    {"no bytes", BYTES(""), 1, NOFERKASH_OK, 0, NOTHING},
+    {"no bytes, no room", BYTES(""), 0, NOFERKASH_OK, 0, NOTHING},
+    {"a mark alone", BYTES(MARK), 7, NOFERKASH_OK, 0, NOTHING},
+    {"an empty row", ROW("\n", "")},
+    {"one quote, of which the text is twice as long", ROW("\"", "\"")},
+    {"semicolons, filled, quoted, marked, CR LF",
+     BYTES(MARK "0;0;\"Header\";0;1;96;;\r\n1;0;Lyric_t;\"a \"\"b\"\"\";;;;\r\n1;0;Lyric_t\r\n"), 200,
+     NOFERKASH_OK, 0,
+     BYTES("0,0,Header,0,1,96\n1,0,Lyric_t,\"a \"\"b\"\"\"\n1,0,Lyric_t,\"\"\n")},
+    {"tabs", ROW("0\t0\tKey_signature\t-3\tminor\t\t", "0,0,Key_signature,-3,\"minor\"")},
+    {"a whole line in one cell", ROW("\"1,0,Lyric_t,\"\"la\"\"\"", "1,0,Lyric_t,\"la\"")},
+    {"a quote that is not closed", ROW("1,0,Lyric_t,\"a", "\"")},
+    {"bytes after the closing quote", ROW("1,0,Lyric_t,\"a\"b,c", "\"")},
+    {"a comma in a number", ROW("0;0;End_of_file\n1;0;Tempo;500,000",
+                                "0,0,End_of_file\n1,0,Tempo,\"500,000\"")},
+    {"a comma in the first row", ROW("1;0;Tempo;500,000", "1;0;Tempo;500,000")},
+    {"a quoted comma in a number", ROW("1,0,Tempo,\"500,000\"", "1,0,Tempo,\"500,000\"")},
+    {"a note", ROW("# a;b,c\"", "# a;b,c\"")},
+    {"any bytes", ROW("\0\xFF\r\r", "\0\xFF\r")}
 };
 
 /* A text, the manner and the room lent for it, and the answer due. */

@@ -1,8 +1,9 @@
 /* Prints the words of tools/explain for inputs from standard input:
  *   explain file|fold|text    the input, checked, folded or made a file: refused N at P: WORDS, or good
+ *   explain table             the input, made a text and that a file: the same of a table
  *   explain lines N           each line of the input as line N of a good text
  *   explain show MOST         the input, shown in at most so many bytes
- *   explain answer file|text N P   the input, with a made-up answer
+ *   explain answer file|text|table N P   the input, with a made-up answer
  *   explain slow              long texts of all sorts: the processor time taken for each */
 #include <stdio.h>
 #include <stdlib.h>
@@ -69,6 +70,41 @@ static void print(enum read_as read_as, struct input input)
         puts("good");
     else
         print_words(read_as, input, answer);
+}
+
+/* The text of a table; the answer is that about the table, or else about the text. */
+static struct input text_of_table(struct input table, uint64_t *answer)
+{
+    struct input text = {NULL, NOFERKASH_LENGTH(noferkash_sheet_to_text(table.at, table.length, NULL, 0))};
+
+    text.at = lent(text.length);
+    *answer = noferkash_sheet_to_text(table.at, table.length, text.at, text.length);
+    if (NOFERKASH_NUMBER(*answer) == NOFERKASH_OK)
+        *answer = answer_to(AS_TEXT, text);
+    return text;
+}
+
+static void print_table_words(struct input table, struct input text, uint64_t answer)
+{
+    char *words = lent(EXPLAIN_ROOM);
+
+    explain_table(table.at, table.length, text.at, text.length, answer, words, EXPLAIN_ROOM);
+    printf("refused %d at %zu: %s\n", NOFERKASH_NUMBER(answer), NOFERKASH_PLACE(answer), words);
+    free(words);
+}
+
+/* `made_up` takes the place of the answer, unless it is 0. */
+static void print_table(struct input table, uint64_t made_up)
+{
+    uint64_t answer;
+    struct input text = text_of_table(table, &answer);
+
+    answer = made_up != 0 ? made_up : answer;
+    if (NOFERKASH_NUMBER(answer) == NOFERKASH_OK)
+        puts("good");
+    else
+        print_table_words(table, text, answer);
+    free(text.at);
 }
 
 static void print_lines(int number)
@@ -170,8 +206,15 @@ int main(int argc, char **argv)
         time_all();
     } else if (strcmp(what, "answer") == 0 && argc == 5) {
         struct input input = read_all();
-        print_words(strcmp(argv[2], "file") == 0 ? AS_FILE : AS_TEXT, input,
-                    (uint64_t)atoi(argv[3]) << 56 | (uint64_t)atol(argv[4]) << 28);
+        uint64_t answer = (uint64_t)atoi(argv[3]) << 56 | (uint64_t)atol(argv[4]) << 28;
+        if (strcmp(argv[2], "table") == 0)
+            print_table(input, answer);
+        else
+            print_words(strcmp(argv[2], "file") == 0 ? AS_FILE : AS_TEXT, input, answer);
+        free(input.at);
+    } else if (strcmp(what, "table") == 0) {
+        struct input input = read_all();
+        print_table(input, 0);
         free(input.at);
     } else if (strcmp(what, "file") == 0 || strcmp(what, "fold") == 0 || strcmp(what, "text") == 0) {
         struct input input = read_all();

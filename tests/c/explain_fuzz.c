@@ -1,5 +1,5 @@
 /* Damages files or texts, and looks at the words about each refusal:
- *   explain_fuzz file|fold|text SEED COUNT FILE..
+ *   explain_fuzz file|fold|text|table SEED COUNT FILE..
  * Words are one line without control bytes and never empty; and they must be true, as the library
  * itself says: what they call missing mends the file when it is added, what they call due mends the
  * field when it is written there, and the text of a file that cannot be folded has what they name.
@@ -20,6 +20,9 @@ static struct input inputs[MOST_INPUTS], damaged, mended;
 static size_t inputs_count;
 static enum read_as read_as;
 static int folds;
+/* What is damaged is a table, which the text was made of. */
+static struct input table;
+static int has_table;
 static char words[EXPLAIN_ROOM];
 static unsigned long refused[256], by_number[256], mended_count, failures;
 
@@ -40,21 +43,33 @@ static void fail(const char *what)
     printf("FAILED: %s: %s\n", what, words);
 }
 
+static uint8_t *copy_of(const struct input *input)
+{
+    uint8_t *bytes = malloc(input->length > 0 ? input->length : 1);
+
+    if (bytes == NULL)
+        exit(2);
+    return memcpy(bytes, input->at, input->length);
+}
+
 /* Words for these bytes exactly, in a room of exactly the size: the sanitizer sees each byte too
  * far. */
 static void explain(enum read_as as, const struct input *input, uint64_t answer)
 {
-    uint8_t *bytes = malloc(input->length > 0 ? input->length : 1);
+    uint8_t *bytes = copy_of(input), *saved = copy_of(&table);
     char *room = malloc(EXPLAIN_ROOM);
     size_t i;
 
-    if (bytes == NULL || room == NULL)
+    if (room == NULL)
         exit(2);
-    memcpy(bytes, input->at, input->length);
     memset(room, 'x', EXPLAIN_ROOM);
-    explain_refusal(as, bytes, input->length, answer, room, EXPLAIN_ROOM);
+    if (as == AS_TABLE)
+        explain_table(saved, table.length, bytes, input->length, answer, room, EXPLAIN_ROOM);
+    else
+        explain_refusal(as, bytes, input->length, answer, room, EXPLAIN_ROOM);
     memcpy(words, room, EXPLAIN_ROOM);
     free(bytes);
+    free(saved);
     free(room);
     if (memchr(words, 0, EXPLAIN_ROOM) == NULL || words[0] == 0) {
         words[EXPLAIN_ROOM - 1] = 0;
@@ -202,7 +217,7 @@ static void mend_field(const struct input *text, uint64_t answer, size_t number,
     if (answer_to(&mended) != answer)
         return;
     sprintf(named, "field %zu: ", number);
-    explain(AS_TEXT, &mended, answer);
+    explain(has_table ? AS_TABLE : AS_TEXT, &mended, answer);
     if (strncmp(after_given(), named, strlen(named)) == 0 && strstr(words, "of its own") == NULL)
         fail("what is due does not mend it");
 }
@@ -261,12 +276,37 @@ static void look_at_text(const struct input *text, uint64_t answer)
 /* An answer that the library would not give. */
 static void make_up(const struct input *input)
 {
-    uint64_t number = below(8) ? 1 + below(37) : below(256);
+    uint64_t number = below(8) ? 1 + below(38) : below(256);
     uint64_t place = below(8) ? below(input->length + 8) : below(1 << 28);
 
     if (below(2))
         place = below(300);
-    explain(below(2) ? AS_FILE : AS_TEXT, input, number << 56 | place << 28 | below(1 << 28));
+    explain(has_table ? AS_TABLE : below(2) ? AS_FILE : AS_TEXT, input,
+            number << 56 | place << 28 | below(1 << 28));
+}
+
+/* The row that cannot be cut is told by its line, which nothing mends but another. */
+static void look_at_uncut(const struct input *text, uint64_t answer)
+{
+    struct part rest = {text->at, text->length}, line;
+    size_t place = NOFERKASH_PLACE(answer);
+
+    while (place > 0 && next_line(&rest, &line))
+        place--;
+    mended_count++;
+    if (place > 0 || line.length != 1 || line.at[0] != '"')
+        fail("another line");
+}
+
+/* A table damaged as a text is; then its text is what is looked at. */
+static int make_text(void)
+{
+    uint64_t answer;
+
+    table = damaged;
+    answer = noferkash_sheet_to_text(table.at, table.length, damaged.at, sizeof damaged.at);
+    damaged.length = NOFERKASH_LENGTH(answer);
+    return NOFERKASH_NUMBER(answer) == NOFERKASH_OK;
 }
 
 static void try_one(void)
@@ -278,16 +318,20 @@ static void try_one(void)
     damaged = inputs[below(inputs_count)];
     for (; times > 0; times--)
         read_as == AS_FILE ? damage_file(&damaged) : damage_text(&damaged);
+    if (has_table && !make_text())
+        return;
     make_up(&damaged);
     answer = answer_to(&damaged);
     number = NOFERKASH_NUMBER(answer);
     if (number == NOFERKASH_OK)
         return;
     refused[number]++;
-    explain(read_as, &damaged, answer);
+    explain(has_table ? AS_TABLE : read_as, &damaged, answer);
     by_number[number] += strcmp(after_given(), noferkash_refusal_words(number)) == 0;
     if (number >= NOFERKASH_TOO_MANY_TRACKS)
         look_at_folding(&damaged, answer);
+    else if (strncmp(after_given(), "a quote is not closed", 21) == 0)
+        look_at_uncut(&damaged, answer);
     else
         read_as == AS_FILE ? look_at_file(&damaged, answer) : look_at_text(&damaged, answer);
 }
@@ -315,7 +359,8 @@ int main(int argc, char **argv)
     if (argc < 5)
         return 2;
     folds = strcmp(argv[1], "fold") == 0;
-    read_as = strcmp(argv[1], "text") == 0 ? AS_TEXT : AS_FILE;
+    has_table = strcmp(argv[1], "table") == 0;
+    read_as = strcmp(argv[1], "text") == 0 || has_table ? AS_TEXT : AS_FILE;
     seed_with(strtoull(argv[2], NULL, 10));
     for (i = 4; i < argc; i++)
         load(argv[i]);

@@ -32,13 +32,18 @@ static void no_output(const char *what, const void *bytes, size_t length) {
         noferkash_file_to_text(bytes, length, one, 0));
     due(what, noferkash_tidy(bytes, length, NULL, 0), noferkash_tidy(bytes, length, one, 0));
     due(what, noferkash_fold(bytes, length, NULL, 0), noferkash_fold(bytes, length, one, 0));
+    due(what, noferkash_file_to_sheet(bytes, length, NULL, 0),
+        noferkash_file_to_sheet(bytes, length, one, 0));
+    due(what, noferkash_sheet_to_text(bytes, length, NULL, 0),
+        noferkash_sheet_to_text(bytes, length, one, 0));
     for (uint32_t manner = 0; manner <= 2; manner++) {
         due(what, noferkash_text_to_file(bytes, length, manner, NULL, 0),
             noferkash_text_to_file(bytes, length, manner, one, 0));
     }
 }
 
-/* Nothing is read, and nothing may be written: no file and no text is empty. */
+/* Nothing is read, and nothing may be written: no file and no text is empty, and the text of an
+ * empty table is. */
 static void no_input(uint8_t *out, size_t out_len) {
     uint64_t no_file = answer_of(NOFERKASH_FILE_CUT_SHORT, 0, 0);
     uint64_t no_text = answer_of(NOFERKASH_TEXT_CUT_SHORT, 1, 0);
@@ -46,6 +51,8 @@ static void no_input(uint8_t *out, size_t out_len) {
     due("no file", noferkash_file_to_text(NULL, 0, out, out_len), no_file);
     due("no file", noferkash_tidy(NULL, 0, out, out_len), no_file);
     due("no file", noferkash_fold(NULL, 0, out, out_len), no_file);
+    due("no file", noferkash_file_to_sheet(NULL, 0, out, out_len), no_file);
+    due("no table", noferkash_sheet_to_text(NULL, 0, out, out_len), answer_of(NOFERKASH_OK, 0, 0));
     due("no text", noferkash_text_to_file(NULL, 0, 0, out, out_len), no_text);
     due("no text", noferkash_text_to_file(NULL, 0, 1, out, out_len), no_text);
     due("no text", noferkash_text_to_file(NULL, 0, 2, out, out_len),
@@ -80,6 +87,22 @@ static void foldings(void) {
         answer_of(NOFERKASH_PREFIX_OR_PORT, 34, 0));
 }
 
+/* What is refused of tables; the length needed of others. */
+static void tables(void) {
+    static uint8_t table[TABLE_LIMIT + 1];
+    due("a table too long", noferkash_sheet_to_text(table, sizeof table, NULL, 0),
+        answer_of(NOFERKASH_TABLE_TOO_LONG, 0, 0));
+    due("a text too long", noferkash_sheet_to_text(table, READ_LIMIT, NULL, 0),
+        answer_of(NOFERKASH_TEXT_TOO_LONG, 0, 0));
+    due("a table", noferkash_sheet_to_text((const uint8_t *)EXAMPLE_SHEET,
+                                           sizeof EXAMPLE_SHEET - 1, NULL, 0),
+        answer_of(NOFERKASH_ROOM_TOO_SMALL, 0, sizeof EXAMPLE_SHEET - 1));
+    due("a mark alone", noferkash_sheet_to_text((const uint8_t *)MARK, 3, NULL, 0),
+        answer_of(NOFERKASH_OK, 0, 0));
+    due("a file", noferkash_file_to_sheet((const uint8_t *)SHORT, sizeof SHORT - 1, NULL, 0),
+        answer_of(NOFERKASH_ROOM_TOO_SMALL, 0, sizeof EXAMPLE_SHEET - 1));
+}
+
 #define EACH(array, i) (size_t i = 0; i < sizeof array / sizeof array[0]; i++)
 
 int main(void) {
@@ -104,6 +127,9 @@ int main(void) {
     for EACH(text_cases, i) {
         no_output(text_cases[i].what, text_cases[i].bytes, text_cases[i].length);
     }
+    for EACH(table_cases, i) {
+        no_output(table_cases[i].what, table_cases[i].bytes, table_cases[i].length);
+    }
     for EACH(file_cases, i) {
         no_output(file_cases[i].what, file_cases[i].bytes, file_cases[i].length);
     }
@@ -116,12 +142,17 @@ int main(void) {
     strcpy((char *)much + written, "\n" END_LINES);
     no_output("file too long", much, strlen((char *)much));
     foldings();
+    tables();
 
     for (int number = 1; number <= NOFERKASH_PREFIX_OR_PORT; number++) {
         if ((number <= 14 || number >= 21) && met[number] == 0) {
             failed++;
             printf("FAILED: %d was never met\n", number);
         }
+    }
+    if (met[NOFERKASH_TABLE_TOO_LONG] == 0) {
+        failed++;
+        printf("FAILED: %d was never met\n", NOFERKASH_TABLE_TOO_LONG);
     }
     if (met[NOFERKASH_TOO_FEW_ROWS] > 0) {
         failed++;

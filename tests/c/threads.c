@@ -1,4 +1,4 @@
-/* threads FILE..: threads that run at once call all five functions on the same input, each into a
+/* threads FILE..: threads that run at once call all seven functions on the same input, each into a
  * buffer of its own, and must get the answers and the bytes that one thread got before. Each file
  * is taken as it is, cut short, and with a byte changed, so that refusals are met too. */
 #define _XOPEN_SOURCE 700
@@ -14,7 +14,7 @@
 #define GUARD 0xA5
 #define FENCE 16
 
-enum call { CHECK, TO_TEXT, TIDY, FOLD, TO_FULL, TO_SHORT, CALLS };
+enum call { CHECK, TO_TEXT, TIDY, FOLD, TO_SHEET, TO_FULL, TO_SHORT, FROM_SHEET, CALLS };
 
 struct bytes {
     uint8_t *at;
@@ -22,7 +22,7 @@ struct bytes {
 };
 
 struct input {
-    struct bytes file, text;
+    struct bytes file, text, sheet;
     uint64_t due[CALLS];
     uint8_t *due_bytes[CALLS];
 };
@@ -41,7 +41,8 @@ static void *room(size_t length) {
 }
 
 static size_t buffer_for(const struct input *input) {
-    size_t text = 25 * input->file.length;
+    /* For its text, or for that of a table no longer than this, whose text may be twice so long. */
+    size_t text = 2 * 25 * input->file.length + 1;
     return (text > NOFERKASH_FILE_LIMIT ? text : NOFERKASH_FILE_LIMIT) + FENCE;
 }
 
@@ -55,6 +56,10 @@ static uint64_t run(enum call call, const struct input *input, uint8_t *out) {
         return noferkash_tidy(file.at, file.length, out, out_len);
     case FOLD:
         return noferkash_fold(file.at, file.length, out, out_len);
+    case TO_SHEET:
+        return noferkash_file_to_sheet(file.at, file.length, out, out_len);
+    case FROM_SHEET:
+        return noferkash_sheet_to_text(input->sheet.at, input->sheet.length, out, out_len);
     case TO_FULL:
         return noferkash_text_to_file(text.at, text.length, 0, out, out_len);
     case TO_SHORT:
@@ -64,11 +69,12 @@ static uint64_t run(enum call call, const struct input *input, uint8_t *out) {
     }
 }
 
-/* Adds a file with what one thread makes of it. That which is refused is its own text. */
+/* Adds a file with what one thread makes of it. That which is refused is its own text and sheet. */
 static void add(const uint8_t *bytes, size_t length) {
     struct input *input = &inputs[input_count++];
-    input->file.length = input->text.length = length;
-    input->file.at = input->text.at = memcpy(room(length), bytes, length);
+    input->file.length = length;
+    input->file.at = memcpy(room(length), bytes, length);
+    input->text = input->sheet = input->file;
     size_t buffer = buffer_for(input);
     greatest_buffer = buffer > greatest_buffer ? buffer : greatest_buffer;
     uint8_t *out = room(buffer);
@@ -76,10 +82,10 @@ static void add(const uint8_t *bytes, size_t length) {
         input->due[call] = run(call, input, out);
         size_t written = NOFERKASH_LENGTH(input->due[call]);
         input->due_bytes[call] = memcpy(room(written), out, written);
-        if (call == TO_TEXT && NOFERKASH_NUMBER(input->due[call]) == NOFERKASH_OK) {
-            input->text.at = input->due_bytes[call];
-            input->text.length = written;
-        }
+        int good = NOFERKASH_NUMBER(input->due[call]) == NOFERKASH_OK;
+        struct bytes made = {input->due_bytes[call], written};
+        input->text = call == TO_TEXT && good ? made : input->text;
+        input->sheet = call == TO_SHEET && good ? made : input->sheet;
     }
     free(out);
 }

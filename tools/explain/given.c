@@ -203,7 +203,7 @@ static int say_table(struct part input, struct words *words) {
     say_why(cut == AT_TABS, "tabs between fields", &reasons, words);
     say_why(is_filled(text, cut), "empty fields at the line's end", &reasons, words);
     say_why(cut == IN_QUOTES, "a whole line in quotes", &reasons, words);
-    return reasons > 0 && say(words, ")");
+    return reasons > 0 && say(words, "), which from-sheet reads");
 }
 
 static int is_midicsv(struct part input) {
@@ -233,21 +233,23 @@ static int say_given_file(struct part input, struct words *words) {
     return !may_be_midi(input) && say(words, "this is no MIDI file");
 }
 
-/* To a command that reads texts. */
+/* To a command that reads texts or tables; a table is what the second expects. */
 static int say_given_text(struct part input, struct words *words) {
     if (is_utf_16(input)) {
         return say(words, "this is UTF-16 text, not plain bytes");
     }
-    return say_table(input, words);
+    return words->read_as == AS_TEXT && say_table(input, words);
 }
 
-int say_given(enum read_as read_as, struct part input, struct words *words) {
+int say_given(struct part input, struct words *words) {
     if (HAS_AT(input, 0, "MThd")) {
-        return read_as == AS_TEXT && say(words, "this is a MIDI file, which to-text reads");
+        return words->read_as != AS_FILE &&
+               say(words, "this is a MIDI file, which to-%s reads",
+                   words->read_as == AS_TEXT ? "text" : "sheet");
     }
     const char *ending = workbook(input);
     if (ending != NULL) {
         return say(words, "this is an %s workbook: docs/SPREADSHEET.md says how to save it as text", ending);
     }
-    return read_as == AS_FILE ? say_given_file(input, words) : say_given_text(input, words);
+    return words->read_as == AS_FILE ? say_given_file(input, words) : say_given_text(input, words);
 }

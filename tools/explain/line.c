@@ -22,8 +22,17 @@ static int is_too_great(struct part written) {
     return digits > at && digits == written.length;
 }
 
+/* The line that the library makes of a row which cannot be cut into cells. */
+static int is_uncut(struct part line) {
+    return line.length == 1 && line.at[0] == '"';
+}
+
 /* 22: the first field of none of the three shapes. */
 static int say_shape(struct part line, struct words *words) {
+    if (words->read_as == AS_TABLE && is_uncut(line)) {
+        return say(words, "a quote is not closed, or something stands behind the closing one "
+                          "(a line break in a cell?)");
+    }
     struct fields fields = fields_of(line, ',');
     struct field field;
     char room[SHOWN_ROOM];
@@ -131,8 +140,9 @@ static int say_column(size_t at, const struct field *field, int64_t before,
                    shown(field->written, room));
     case A_MODE:
         return !is_word(field, "\"major\"") && !is_word(field, "\"minor\"") &&
-               say(words, "field %zu: %s is not \"major\" or \"minor\" with its quotes", at,
-                   shown(field->written, room));
+               say(words, "field %zu: %s is not \"major\" or \"minor\"%s", at,
+                   shown(field->written, room),
+                   words->read_as == AS_TABLE ? "" : " with its quotes");
     default:
         return say_number(at, field, before, column, words);
     }

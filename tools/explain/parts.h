@@ -13,11 +13,12 @@ struct part {
     size_t length;
 };
 
-/* Words being written; `used` of the `room` bytes are. */
+/* Words being written; `used` of the `room` bytes are. They are about what was read so. */
 struct words {
     char *at;
     size_t room;
     size_t used;
+    enum read_as read_as;
 };
 
 /* Adds to the words, as printf does, as far as there is room. The answer is
@@ -35,7 +36,7 @@ const char *grouped(uint64_t number, char shown[GROUPED_ROOM]);
 /* Each of these adds words, or adds nothing and answers 0 if it has found none. */
 
 /* What was really given, without the semicolon after it. */
-int say_given(enum read_as read_as, struct part input, struct words *words);
+int say_given(struct part input, struct words *words);
 
 /* About 2 to 12 and 31 to 33. */
 int explain_file(struct part file, int number, size_t place, struct words *words);
