@@ -15,6 +15,7 @@
 # make fuzz      TIME=300 SEED=1 FUNCTION=: fuzzes each exported function, or check, file_to_text,
 #                text_to_file, tidy or fold alone, for so many seconds beside the second program
 # make fuzz-planted  that the fuzzer finds planted faults; some minutes
+# make sheets    tries the sheet form in LibreOffice Calc and Gnumeric themselves, where they are installed; some 7 minutes
 # make soak      CASES=500000 SEED=0: the seeded comparison with the second program, so many cases
 #
 # ARCHIVE=FILE   another proved library than that of dist/
@@ -49,7 +50,7 @@ MAN = $(wildcard man/*.1 man/*.3 man/*.5)
 DOC = LICENSE CHANGELOG.md $(wildcard docs/*.md)
 
 .DELETE_ON_ERROR:
-.PHONY: all tool example install uninstall prove dist test bench fuzz fuzz-planted soak clean always
+.PHONY: all tool example install uninstall prove dist test bench fuzz fuzz-planted soak sheets clean always
 
 all: tool example
 	@echo "$(TOOL) is the command line tool; make install installs it"
@@ -188,6 +189,9 @@ soak: CASES = 500000
 soak: SEED = 0
 soak: $(ARCHIVE)
 	$(WITH_ARCHIVE) differential -- $(CASES) $(SEED)
+
+sheets: $(ARCHIVE)
+	tests/spreadsheet $(abspath $(ARCHIVE))
 
 clean:
 	rm -rf target tests/target
