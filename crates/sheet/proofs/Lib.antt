@@ -15,3 +15,4 @@ mod RowBoundLaws
 mod RowLaws
 mod NameCellLaws
 mod PartLaws
+mod StandLaws

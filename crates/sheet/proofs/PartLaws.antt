@@ -24,7 +24,7 @@ module _ (sep : ℕ) (twice : Bool) (l : List ℕ) where
   remark-part e = rw e
 
   -- any other line by its cells
-  cut-part : isRemark sep (seen twice l) ≡ false → ofCut rowLine (cut sep (seen twice l)) ≡ lineBy rowLine sep (seen twice l)
+  pub cut-part : isRemark sep (seen twice l) ≡ false → ofCut rowLine (cut sep (seen twice l)) ≡ lineBy rowLine sep (seen twice l)
   unfolding lineBy pick
   cut-part e = rw e
 
@@ -34,7 +34,7 @@ module _ (sep : ℕ) (twice : Bool) (l : List ℕ) where
     uncut-part n z = let e : RowIs sep twice l Uncut = rw z at i in sym (ap (ofCut rowLine) e) ∙ cut-part n
 
     module _ (row : Row) (z : r ≡ Cells row) where
-      cells-of : (cs : List (List ℕ)) × (cut sep (seen twice l) ≡ good cs) × Looked cs row
+      pub cells-of : (cs : List (List ℕ)) × (cut sep (seen twice l) ≡ good cs) × Looked cs row
       unfolding RowIs
       cells-of = rw z at i
 

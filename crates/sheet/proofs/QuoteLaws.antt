@@ -109,7 +109,7 @@ has-singled (c ∷ d ∷ l) =
     (λ e. ap (has 34) (pick-true (c ∷ singled l) (c ∷ singled (d ∷ l)) e) ∙ is-quote c (singled l) e ∙ sym (is-quote c (d ∷ l) e))
     (λ e. ap (has 34) (pick-false (c ∷ singled l) (c ∷ singled (d ∷ l)) e) ∙ ap (λ b. eqb c 34 || b) (has-singled (d ∷ l)))
 
-unquoted : (l : List ℕ) → has 34 l ≡ false → singled l ≡ l
+pub unquoted : (l : List ℕ) → has 34 l ≡ false → singled l ≡ l
 unfolding singled has pick
 unquoted [] e = refl
 unquoted (c ∷ []) e = refl

@@ -7,7 +7,7 @@ ghost use lib.ListN.{length};
 ghost use Rattle.event.specs.Choice.{pick};
 ghost use Rattle.event_write.specs.Written.{Written};
 ghost use Rattle.midicsv.specs.ReadField.{readField};
-ghost use Rattle.sheet_table.specs.Cut.{cut};
+ghost use Rattle.sheet_table.specs.Cut.{has, cut};
 ghost use Rattle.sheet_table.specs.Table.{isEmpty, nameIn, textOfName, lineBy, rowLine};
 ghost use Rattle.sheet.specs.Code.Seen.{seen};
 ghost use Rattle.sheet.specs.Code.Cell.{contentOf};
@@ -24,6 +24,7 @@ use super::part::after_byte;
 use super::part::is_empty_cell;
 use super::part::is_remark_line;
 use event_write::bytes::put_byte;
+use event_write::bytes::put_bytes;
 
 // How many cells stand up to the last that is not empty, after the cell numbered cells - 1.
 fn kept_after(kept: usize, cells: usize, raw: &[u8], twice: bool, quoted: bool) -> usize
@@ -167,6 +168,39 @@ fn put_row(
     next
 }
 
+// Whether a quote is among the bytes.
+fn has_quote(part: &[u8]) -> bool
+    ensures { λ r. ⌜ r ≡ has 34 (now (part .entry)) ⌝ }
+{
+    let mut p = 0;
+    while p < part.len() {
+        let c = part[p];
+        if c == 34 {
+            return true;
+        }
+        p = p + 1;
+    }
+    false
+}
+
+// Whether a row stands in its line as it is: commas part its cells, none is a text, none at the end is
+// empty, and there is no quote in it. So are most rows, and such a row need not be written cell by cell.
+// The quote is looked for last, since only that takes a walk through the row.
+fn stands(part: &[u8], sep: u8, row: Row) -> bool
+    ensures { λ r. ⌜ r ≡ (eqb sep 44 && (eqb (row .place) 0 && (eqb (row .kept) (row .cells) && not (has 34 (now (part .entry)))))) ⌝ }
+{
+    if sep != 44 {
+        return false;
+    }
+    if row.place != 0 {
+        return false;
+    }
+    if row.kept != row.cells {
+        return false;
+    }
+    !has_quote(part)
+}
+
 // A part of a line, cut into cells, as a line of a text.
 pub fn put_part(out: &mut [u8], at: usize, part: &[u8], sep: u8, twice: bool) -> usize
     requires { ⌜ at < 2 ^ 38 ⌝ ∗ ⌜ length (now part) ≤ 268435456 ⌝ }
@@ -178,6 +212,9 @@ pub fn put_part(out: &mut [u8], at: usize, part: &[u8], sep: u8, twice: bool) ->
     match look(part, sep, twice) {
         RowStep::Uncut => put_byte(out, at, 34),
         RowStep::Cells(row) => {
+            if stands(part, sep, row) {
+                return put_bytes(out, at, part);
+            }
             let count = field_count(row);
             let place = row.place;
             put_row(out, at, part, sep, twice, count, place)
