@@ -183,7 +183,7 @@ uint64_t noferkash_file_to_sheet(const uint8_t *file, size_t file_len, uint8_t *
  * (docs/SPREADSHEET.md). There is a text of any bytes whatever, and no row is refused
  * here: noferkash_text_to_file refuses it, at that line. NOFERKASH_OK and the length
  * written; bytes of `out` past it stay. The text of a table of n bytes has at most
- * 2 * n + 1 bytes.
+ * 2 * n + 2 bytes.
  *
  * Refusals, in this order; each leaves all of `out` as it was:
  * - NOFERKASH_TABLE_TOO_LONG over 268,435,456 bytes;

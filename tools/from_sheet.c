@@ -6,7 +6,7 @@
 
 /* As the header promises: more is never needed, or refused. */
 static size_t enough_for_text(size_t table_length) {
-    size_t most = 2 * table_length + 1;
+    size_t most = 2 * table_length + 2;
     return most < NOFERKASH_TEXT_LIMIT ? most : NOFERKASH_TEXT_LIMIT;
 }
 

@@ -42,7 +42,7 @@ static void *room(size_t length) {
 
 static size_t buffer_for(const struct input *input) {
     /* For its text, or for that of a table no longer than this, whose text may be twice so long. */
-    size_t text = 2 * 25 * input->file.length + 1;
+    size_t text = 2 * 25 * input->file.length + 2;
     return (text > NOFERKASH_FILE_LIMIT ? text : NOFERKASH_FILE_LIMIT) + FENCE;
 }
 

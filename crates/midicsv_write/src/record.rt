@@ -136,7 +136,14 @@ fn put_three_columns(out: &mut [u8], at: usize, kind: EventKind, sheet: bool) ->
             channel,
             controller,
             value,
-        } => put_three_fields(out, at, channel as u32, controller as u32, value as u32, sheet),
+        } => put_three_fields(
+            out,
+            at,
+            channel as u32,
+            controller as u32,
+            value as u32,
+            sheet,
+        ),
         _ => put_few_columns(out, at, kind, sheet),
     }
 }

@@ -25,6 +25,7 @@ use smf::HeaderStep;
 
 // The two forms: whether a sheet is written.
 const TEXT: bool = false;
+
 const SHEET: bool = true;
 
 // The lines of the events of a track's body, which are known to read.
@@ -69,7 +70,14 @@ fn put_track(out: &mut [u8], at: usize, body: &[u8], track: u32, sheet: bool) ->
 }
 
 // So many tracks from a place of the file on, which are known to read, numbered from 1.
-fn put_tracks(out: &mut [u8], from: usize, file: &[u8], count: u32, first: usize, sheet: bool) -> usize
+fn put_tracks(
+    out: &mut [u8],
+    from: usize,
+    file: &[u8],
+    count: u32,
+    first: usize,
+    sheet: bool,
+) -> usize
     requires { ⌜ from < 2 ^ 38 ⌝ ∗ ⌜ first ≤ length (now file) ⌝ ∗ ⌜ length (now file) ≤ 1048576 ⌝ ∗ ⌜ count ≤ 65535 ⌝ ∗ ⌜ Readable (readTracks count first (drop first (now file))) ⌝ }
     ensures { λ r. ⌜ Written (now (out .entry)) from (recordsText (formOf sheet) (trackRecords 1 (valueOr [] (readTracks count first (drop first (now (file .entry))))))) (now (out .exit)) r ⌝ }
 {
