@@ -12,7 +12,7 @@ use Rattle.event.proofs.ChoiceLaws.{by-test, and-both}
 use Rattle.midicsv.specs.ReadField.{isLetter}
 use Rattle.midicsv.specs.Names.{lower, sameName}
 use Rattle.midicsv.specs.TruthWords.{truthWords}
-use Rattle.midicsv.specs.Spell.{octal, orOctal, standsInside, standsLast, unblanked, listed, isTruth, spellRest, spellShort, octalAll, spellText}
+use Rattle.midicsv.specs.Spell.{octal, orOctal, standsInside, standsLast, unblanked, listed, isTruth, spellRest, spellShort, octalAll, spellText, longest}
 use Rattle.midicsv.proofs.TruthLaws.{few-bytes}
 
 -- whether a backslash is in it
@@ -112,4 +112,4 @@ octals-no-word (c ∷ d) = slashed-no-word (octalAll (c ∷ d)) refl
 
 pub no-word : (d : List ℕ) → isTruth (spellText d) ≡ false
 unfolding spellText pick
-no-word d = by-test (leb (length d) 8191) (λ t. rw t (short-no-word d)) (λ t. rw t (octals-no-word d))
+no-word d = by-test (leb (length d) longest) (λ t. rw t (short-no-word d)) (λ t. rw t (octals-no-word d))

@@ -11,7 +11,7 @@ use Rattle.event.specs.Choice.{pick}
 use Rattle.event.specs.Bytes.{Bytes}
 use Rattle.event.proofs.ChoiceLaws.{by-test, or-cases, and-both}
 use Rattle.midicsv.specs.ReadField.{isDigit, isLetter, isOctal}
-use Rattle.midicsv.specs.Spell.{octal, orOctal, isMark, isSolid, standsInside, standsLast, isTruth, spellRest, spellShort, octalAll, spellText}
+use Rattle.midicsv.specs.Spell.{octal, orOctal, isMark, isSolid, standsInside, standsLast, isTruth, spellRest, spellShort, octalAll, spellText, longest}
 use Rattle.midicsv.specs.Safe.{BeginsWell, EndsWell, Grouped, none, one, group, Safe}
 use Rattle.midicsv.proofs.SpellLaws.{spell-size}
 use Rattle.midicsv.proofs.NoWordLaws.{no-word}
@@ -192,10 +192,10 @@ octals-end q (c ∷ x ∷ l) = octal-later q c (octalAll (x ∷ l)) (octals-some
 pub text-safe : (d : List ℕ) → Bytes d → Safe d (spellText d)
 unfolding spellText pick
 text-safe d b = record {
-  begins = by-test (leb (length d) 8191) (λ t. rw t (short-begins d)) (λ t. rw t (octals-begin d));
-  ends = by-test (leb (length d) 8191) (λ t. rw t (short-ends d)) (λ t. rw t (octals-end 0 d));
-  groups = by-test (leb (length d) 8191) (λ t. rw t (short-grouped d b)) (λ t. rw t (octals-grouped standsInside d b));
+  begins = by-test (leb (length d) longest) (λ t. rw t (short-begins d)) (λ t. rw t (octals-begin d));
+  ends = by-test (leb (length d) longest) (λ t. rw t (short-ends d)) (λ t. rw t (octals-end 0 d));
+  groups = by-test (leb (length d) longest) (λ t. rw t (short-grouped d b)) (λ t. rw t (octals-grouped standsInside d b));
   no-word = no-word d;
   short-enough = λ h. let s = spell-size d in omega arith;
-  all-octal = λ h. rw (lt-leb (length d) 8191 h) (octals-grouped (λ c. false) d b);
+  all-octal = λ h. rw (lt-leb (length d) longest (omega (arith, h))) (octals-grouped (λ c. false) d b);
 }

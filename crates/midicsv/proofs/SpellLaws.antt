@@ -14,7 +14,7 @@ use Rattle.event.proofs.ChoiceLaws.{by-test, pick-true, pick-false, or-cases, a
 use Rattle.midicsv.specs.ReadField.{isLetter, push, plain, readQuoted}
 use Rattle.midicsv.proofs.AllLaws.{All, all-append, Printable}
 use Rattle.midicsv.proofs.QuotedReadLaws.{push-eq, octal-read, NoQuote, closing}
-use Rattle.midicsv.specs.Spell.{octal, orOctal, isMark, isSolid, standsInside, standsLast, isTruth, spellRest, spellShort, octalAll, spellText}
+use Rattle.midicsv.specs.Spell.{octal, orOctal, isMark, isSolid, standsInside, standsLast, isTruth, spellRest, spellShort, octalAll, spellText, longest}
 
 -- ---- a byte that may stand: no control byte, no quote, no backslash
 
@@ -104,7 +104,7 @@ octals-read (c ∷ l) r b n = octal-read c (octalAll l ++ (34 ∷ r)) (b .0) ∙
 
 pub spell-read : (d r : List ℕ) → Bytes d → NoQuote r → readQuoted (spellText d ++ (34 ∷ r)) plain ≡ ok d r
 unfolding spellText pick
-spell-read d r b n = by-test (leb (length d) 8191) (λ t. rw t (short-read d r b n)) (λ t. rw t (octals-read d r b n))
+spell-read d r b n = by-test (leb (length d) longest) (λ t. rw t (short-read d r b n)) (λ t. rw t (octals-read d r b n))
 
 -- ---- no control bytes
 
@@ -135,7 +135,7 @@ octals-printable (c ∷ l) = all-append Printable (octal c) (octalAll l) (octal-
 
 pub spell-printable : (d : List ℕ) → All Printable (spellText d)
 unfolding spellText pick
-spell-printable d = by-test (leb (length d) 8191) (λ t. rw t (short-printable d)) (λ t. rw t (octals-printable d))
+spell-printable d = by-test (leb (length d) longest) (λ t. rw t (short-printable d)) (λ t. rw t (octals-printable d))
 
 -- ---- at most four bytes for each
 
@@ -162,4 +162,4 @@ octals-size (c ∷ l) = let q = octals-size l in omega arith
 
 pub spell-size : (d : List ℕ) → length (spellText d) ≤ 4 * length d
 unfolding spellText pick
-spell-size d = by-test (leb (length d) 8191) (λ t. rw t (short-size d)) (λ t. rw t (octals-size d))
+spell-size d = by-test (leb (length d) longest) (λ t. rw t (short-size d)) (λ t. rw t (octals-size d))

@@ -10,7 +10,7 @@ use lib.Seq.{drop-cons}
 use borrow.Author.Tests.{le-leb, lt-leb}
 use Rattle.event.proofs.ChoiceLaws.{pick-true, pick-false}
 use Rattle.midicsv.specs.ReadField.{isLetter}
-use Rattle.midicsv.specs.Spell.{octal, orOctal, standsInside, standsLast, isTruth, spellRest, spellShort, octalAll, spellText}
+use Rattle.midicsv.specs.Spell.{octal, orOctal, standsInside, standsLast, isTruth, spellRest, spellShort, octalAll, spellText, longest}
 
 module _ (free : Bool) (before : ℕ) (d : List ℕ) (i : ℕ) where
   -- a byte that is not the last
@@ -46,10 +46,10 @@ unfolding spellShort
 short-some [] h = absurd (omega arith)
 short-some (c ∷ l) h = refl
 
-pub spelled-short : (d : List ℕ) → length d ≤ 8191 → spellShort d ≡ spellText d
+pub spelled-short : (d : List ℕ) → length d ≤ longest → spellShort d ≡ spellText d
 unfolding spellText
-spelled-short d h = sym (pick-true _ _ (le-leb (length d) 8191 h))
+spelled-short d h = sym (pick-true _ _ (le-leb (length d) longest h))
 
-pub spelled-long : (d : List ℕ) → 8191 < length d → octalAll d ≡ spellText d
+pub spelled-long : (d : List ℕ) → longest < length d → octalAll d ≡ spellText d
 unfolding spellText
-spelled-long d h = sym (pick-false _ _ (lt-leb (length d) 8191 h))
+spelled-long d h = sym (pick-false _ _ (lt-leb (length d) longest h))

@@ -64,6 +64,10 @@ unfoldable pub octalAll : List ℕ → List ℕ
 octalAll [] = []
 octalAll (c ∷ d) = octal c ++ octalAll d
 
+-- rule 4: "8,191 bytes"
+abbrev pub longest : ℕ
+longest = 8191
+
 -- rule 4: "A text over 8,191 bytes has every byte in octal"
 unfoldable pub spellText : List ℕ → List ℕ
-spellText d = pick (leb (length d) 8191) (spellShort d) (octalAll d)
+spellText d = pick (leb (length d) longest) (spellShort d) (octalAll d)

@@ -10,7 +10,7 @@ use borrow.Author.Tests.{ne-eqb}
 use Rattle.event.specs.Choice.{pick}
 use Rattle.event.proofs.ChoiceLaws.{by-test, pick-false, and-both}
 use Rattle.midicsv.specs.Field.{decimal, Field, num, minus, name, quoted}
-use Rattle.midicsv.specs.Spell.{octal, orOctal, standsInside, standsLast, isTruth, spellRest, spellShort, octalAll, spellText}
+use Rattle.midicsv.specs.Spell.{octal, orOctal, standsInside, standsLast, isTruth, spellRest, spellShort, octalAll, spellText, longest}
 use Rattle.midicsv.specs.Show.{asSheet, spellIn, quote, show}
 use Rattle.midicsv.specs.ReadField.{isLetter, readField}
 use Rattle.midicsv.proofs.AllLaws.{All, all-append, Printable, Digit}
@@ -64,7 +64,7 @@ octals-quotes (c ∷ l) = join-quotes (octal c) (octalAll l) (octal-quotes c) (o
 
 text-quotes : (d : List ℕ) → NoQuotes (spellText d)
 unfolding spellText pick
-text-quotes d = by-test (leb (length d) 8191) (λ t. rw t (short-quotes d)) (λ t. rw t (octals-quotes d))
+text-quotes d = by-test (leb (length d) longest) (λ t. rw t (short-quotes d)) (λ t. rw t (octals-quotes d))
 
 doubled-none : (c : List ℕ) → NoQuotes c → doubled c ≡ c
 unfolding doubled
@@ -118,7 +118,7 @@ octals-clean sep (c ∷ l) = octal-clean sep c (octalAll l)
 
 text-clean : (sep : ℕ) (d : List ℕ) → Clean sep (spellText d)
 unfolding spellText pick
-text-clean sep d = by-test (leb (length d) 8191) (λ t. rw t (short-clean sep d)) (λ t. rw t (octals-clean sep d))
+text-clean sep d = by-test (leb (length d) longest) (λ t. rw t (short-clean sep d)) (λ t. rw t (octals-clean sep d))
 
 pub field-clean : (sep : ℕ) (f : Field) → Good f → Clean sep (cellOf f)
 unfolding Good cellOf
