@@ -13,11 +13,13 @@ use Rattle.event.proofs.ChoiceLaws.{by-test, and-both}
 use Rattle.event.specs.Choice.{pick}
 use Rattle.sheet_table.specs.Cut.{has, blankBeside, skipBeside, begins, bare, quotes, closed, cutFrom, cut}
 use Rattle.sheet.specs.Code.Seen.{singled, seen, slice, Passed, Reached, SkippedTo}
-use Rattle.sheet.specs.Code.Cell.{cellsAfter, contentOf, CellIs, BareEnd, closes, QuoteEnd, ClosedTo, QuotedIs, BareIs}
+use Rattle.sheet_table.specs.Code.Cells.{cellsAfter}
+use Rattle.sheet.specs.Code.Cell.{contentOf, CellIs, BareEnd, closes, QuoteEnd, ClosedTo, QuotedIs, BareIs}
 use Rattle.sheet.specs.declared.CellStep.the-variants.{Found, Open}
 use Rattle.sheet.proofs.SeenLaws.{seen-at, seen-other, seen-past, reached-first, reached-on, grown}
 use Rattle.sheet.proofs.BlankLaws.{blank-quote}
-use Rattle.sheet.proofs.CutLaws.{onCells, cells-cons, cells-bad, Follows, bare-cut, has-more, quotes-cut, Paired, paired-join, paired-none, paired-one, paired-two, closing-cut, closed-blank, closed-other, closed-end, quoted-open, bare-open}
+use Rattle.sheet_table.proofs.CutLaws.{Follows, bare-cut}
+use Rattle.sheet.proofs.CutLaws.{onCells, cells-cons, cells-bad, has-more, quotes-cut, Paired, paired-join, paired-none, paired-one, paired-two, closing-cut, closed-blank, closed-other, closed-end, quoted-open, bare-open}
 
 follows : (sep : ℕ) (twice : Bool) (l : List ℕ) (n : ℕ) → (n < length l → getD l n 0 ≡ sep) → Follows sep (seen twice (drop n l))
 unfolding Follows

@@ -11,21 +11,12 @@ use Rattle.midicsv.specs.Lines.{onto}
 use Rattle.midicsv.specs.Result.{Result, good, bad}
 use Rattle.sheet_table.specs.Cut.{has, blankBeside, skipBeside, begins, bare, lead, quotes, closed, opening, onCell, newCell, cutFrom, cut}
 use Rattle.sheet_table.specs.Table.{doubled}
+use Rattle.sheet_table.proofs.CutLaws.{new-cons, on-cons, Follows, or-left, or-right}
 use Rattle.sheet.specs.Code.Seen.{singled}
-use Rattle.sheet.specs.Code.Cell.{consCell, cellsAfter}
+use Rattle.sheet_table.specs.Code.Cells.{consCell, cellsAfter}
 use Rattle.sheet.proofs.BlankLaws.{blank-quote}
 
 -- ---- cells in front
-
-new-cons : (m : Result (List (List ℕ))) → newCell m ≡ consCell [] m
-unfolding newCell consCell
-new-cons (good cs) = refl
-new-cons (bad n) = refl
-
-on-cons : (c : ℕ) (l : List ℕ) (m : Result (List (List ℕ))) → onCell c (consCell l m) ≡ consCell (c ∷ l) m
-unfolding onCell consCell onto
-on-cons c l (good cs) = refl
-on-cons c l (bad n) = refl
 
 -- bytes in front of the first cell
 unfoldable pub onCells : List ℕ → Result (List (List ℕ)) → Result (List (List ℕ))
@@ -41,32 +32,6 @@ pub cells-bad : (c : List ℕ) (n : ℕ) → onCells c (bad n) ≡ bad n
 unfolding onCells onCell
 cells-bad [] n = refl
 cells-bad (x ∷ c) n = ap (onCell x) (cells-bad c n)
-
--- what follows a cell: nothing, or the separator and further cells
-unfoldable pub Follows : ℕ → List ℕ → Type 0
-Follows sep [] = Unit {0}
-Follows sep (x ∷ l) = x ≡ sep
-
--- ---- a bare cell
-
-bare-end : (sep : ℕ) (t : List ℕ) → Follows sep t → cutFrom sep t bare ≡ consCell [] (cellsAfter sep t)
-unfolding cutFrom Follows cellsAfter cut consCell
-bare-end sep [] h = refl
-bare-end sep (x ∷ l) h = pick-true _ _ (eq-eqb x sep h) ∙ new-cons (cutFrom sep l (opening sep l))
-
-pub or-left : (a b : Bool) → (a || b) ≡ false → a ≡ false
-or-left true b e = absurd (false≢true (sym e))
-or-left false b e = refl
-
-pub or-right : (a b : Bool) → (a || b) ≡ false → b ≡ false
-or-right true b e = absurd (false≢true (sym e))
-or-right false b e = e
-
-pub bare-cut : (sep : ℕ) (c t : List ℕ) → has sep c ≡ false → Follows sep t → cutFrom sep (c ++ t) bare ≡ consCell c (cellsAfter sep t)
-unfolding has cutFrom
-bare-cut sep [] t n h = bare-end sep t h
-bare-cut sep (x ∷ c) t n h =
-    pick-false _ _ (or-left (eqb x sep) (has sep c) n) ∙ ap (onCell x) (bare-cut sep c t (or-right (eqb x sep) (has sep c) n) h) ∙ on-cons x c (cellsAfter sep t)
 
 pub has-more : (sep x : ℕ) (c : List ℕ) → has sep c ≡ false → eqb x sep ≡ false → has sep (c ++ (x ∷ [])) ≡ false
 unfolding has

@@ -19,7 +19,8 @@ use Rattle.sheet.specs.Code.Seen.{singled, seen, Passed}
 use Rattle.sheet.specs.Code.Cell.{contentOf}
 use Rattle.sheet.proofs.SeenLaws.{seen-past}
 use Rattle.sheet.proofs.BlankLaws.{content-seen}
-use Rattle.sheet.proofs.CutLaws.{Paired, doubled-append, or-left, or-right}
+use Rattle.sheet_table.proofs.CutLaws.{or-left, or-right}
+use Rattle.sheet.proofs.CutLaws.{Paired, doubled-append}
 
 -- ---- a comma or a quote among the bytes
 

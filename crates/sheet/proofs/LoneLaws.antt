@@ -10,7 +10,8 @@ use Rattle.midicsv.specs.Result.{Result, good, bad}
 use Rattle.sheet_table.specs.Cut.{cut}
 use Rattle.sheet_table.specs.Table.{isEmpty, allEmpty, isRemark, ofCut, lineBy, cellsLine, rowLine, tableLine}
 use Rattle.sheet.specs.Code.Seen.{seen, slice}
-use Rattle.sheet.specs.Code.Cell.{consCell, contentOf, CellAt}
+use Rattle.sheet_table.specs.Code.Cells.{consCell}
+use Rattle.sheet.specs.Code.Cell.{contentOf, CellAt}
 use Rattle.sheet.specs.Code.Row.{LoneIs}
 use Rattle.sheet.specs.Code.Walk.{allEmptyIn, LoneWithin}
 use Rattle.sheet.specs.declared.Cell.{Cell}

@@ -15,7 +15,8 @@ use Rattle.midicsv.specs.Result.{Result, good, bad}
 use Rattle.sheet_table.specs.Cut.{begins, skipBeside, opening, cutFrom, cut}
 use Rattle.sheet_table.specs.Table.{requote, plainCell, furtherJoined, joined}
 use Rattle.sheet.specs.Code.Seen.{seen}
-use Rattle.sheet.specs.Code.Cell.{consCell, CellAt}
+use Rattle.sheet_table.specs.Code.Cells.{consCell}
+use Rattle.sheet.specs.Code.Cell.{CellAt}
 use Rattle.sheet.specs.Code.Row.{fieldAt, fieldsIn}
 use Rattle.sheet.specs.Code.Walk.{Stepped, ended, passed, comma, fieldsOf, Fielded}
 use Rattle.sheet.specs.declared.Cell.{Cell}

@@ -20,7 +20,7 @@ use Rattle.sheet.specs.Code.Row.{placeAs, RowIs}
 use Rattle.sheet.specs.declared.Row.{Row}
 use Rattle.sheet.specs.declared.RowStep.{RowStep}
 use Rattle.sheet.specs.declared.RowStep.the-variants.{Cells}
-use Rattle.sheet.proofs.CutLaws.{or-left, or-right}
+use Rattle.sheet_table.proofs.CutLaws.{or-left, or-right}
 use Rattle.sheet.proofs.PartLaws.{cut-part, cells-of}
 use Rattle.sheet.proofs.QuoteLaws.{unquoted}
 

@@ -12,7 +12,8 @@ use Rattle.midicsv.specs.Result.{Result, good, bad}
 use Rattle.sheet_table.specs.Cut.{cut}
 use Rattle.sheet_table.specs.Table.{dropEmpty, textAt}
 use Rattle.sheet.specs.Code.Seen.{singled, seen, slice, Passed}
-use Rattle.sheet.specs.Code.Cell.{consCell, cellsAfter, contentOf, CellAt, CellIs}
+use Rattle.sheet_table.specs.Code.Cells.{consCell, cellsAfter}
+use Rattle.sheet.specs.Code.Cell.{contentOf, CellAt, CellIs}
 use Rattle.sheet.specs.Code.Row.{placeAs, Looked, RowIs}
 use Rattle.sheet.specs.Code.Walk.{Grown}
 use Rattle.sheet.specs.declared.Cell.{Cell}

@@ -22,7 +22,8 @@ use Rattle.midicsv.specs.PieceOfText.{skipped as passed, told, framed, tellLine
 use Rattle.midicsv.proofs.ResultLaws.{not-good, next-good}
 use Rattle.sheet_table.specs.Cut.{has, begins, bare, lead, opening, cutFrom, cut, isNone}
 use Rattle.sheet_table.specs.Table.{isEmpty, allEmpty, keepBefore, dropEmpty, plainCells, textAt, rowFields, joined, rowLine, ofCut, isRemark, lineBy, cellsLine, tableLine, sepIn, sepOf, unmarked, tableText}
-use Rattle.sheet_table.proofs.CutLaws.{parts-comma, Follows, cellsAfter, consCell, bare-cut}
+use Rattle.sheet_table.specs.Code.Cells.{cellsAfter, consCell}
+use Rattle.sheet_table.proofs.CutLaws.{parts-comma, Follows, bare-cut}
 use Rattle.sheet_table.proofs.TableLinesLaws.{line-all, eachRow, table-lines}
 use Rattle.sheet_table.proofs.BareFieldLaws.{inside-has, and-true, NoReturn, skip-same, blanks-inside, skipped}
 use Rattle.sheet_table.proofs.RecordKeptLaws.{line-kept}
@@ -104,7 +105,7 @@ blank-cut l e n =
     ap (λ z. cutFrom 44 l (pick (begins 34 z) lead bare)) (skip-same l ∙ e)
     ∙ ap (cutFrom 44 l) (pick-false _ _ refl)
     ∙ ap (λ z. cutFrom 44 z bare) (sym (append-nil l))
-    ∙ bare-cut 44 l [] parts-comma n tt
+    ∙ bare-cut 44 l [] n tt
 
 blank-free : (l : List ℕ) → skip l ≡ [] → has 44 l ≡ false
 blank-free l e =

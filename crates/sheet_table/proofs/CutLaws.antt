@@ -4,7 +4,7 @@ use Prim.Native.Nat.{ℕ}
 use mathlib.Core.Bool.{Bool, true, false, false≢true, _||_}
 use mathlib.Core.List.{List, [], _∷_, _++_, append-assoc}
 use lib.Dec.{eqb}
-use borrow.Author.Tests.{eqb-true}
+use borrow.Author.Tests.{eqb-true, eq-eqb}
 use Rattle.event.specs.Choice.{pick}
 use Rattle.event.proofs.ChoiceLaws.{by-test, pick-true, pick-false}
 use Rattle.midicsv.specs.Lines.{onto}
@@ -12,6 +12,7 @@ use Rattle.midicsv.specs.Result.{Result, good, bad}
 use Rattle.midicsv.proofs.AllLaws.{All}
 use Rattle.sheet_table.specs.Cut.{has, blankBeside, skipBeside, begins, Within, bare, lead, quotes, aQuote, closed, opening, onCell, newCell, cutFrom, cut}
 use Rattle.sheet_table.specs.Table.{doubled, requote}
+use Rattle.sheet_table.specs.Code.Cells.{consCell, cellsAfter}
 
 -- ---- the separator is none of a quote and a blank beside it
 
@@ -38,22 +39,12 @@ unfoldable pub Follows : ℕ → List ℕ → Type 0
 Follows sep [] = Unit {0}
 Follows sep (x ∷ l) = x ≡ sep
 
--- the cells after the one before t
-unfoldable pub cellsAfter : ℕ → List ℕ → Result (List (List ℕ))
-cellsAfter sep [] = good []
-cellsAfter sep (x ∷ l) = cut sep l
-
--- the cell c in front
-unfoldable pub consCell : List ℕ → Result (List (List ℕ)) → Result (List (List ℕ))
-consCell c (good cs) = good (c ∷ cs)
-consCell c (bad n) = bad n
-
-on-cons : (c : ℕ) (l : List ℕ) (m : Result (List (List ℕ))) → onCell c (consCell l m) ≡ consCell (c ∷ l) m
+pub on-cons : (c : ℕ) (l : List ℕ) (m : Result (List (List ℕ))) → onCell c (consCell l m) ≡ consCell (c ∷ l) m
 unfolding onCell consCell onto
 on-cons c l (good cs) = refl
 on-cons c l (bad n) = refl
 
-new-cons : (m : Result (List (List ℕ))) → newCell m ≡ consCell [] m
+pub new-cons : (m : Result (List (List ℕ))) → newCell m ≡ consCell [] m
 unfolding newCell consCell
 new-cons (good cs) = refl
 new-cons (bad n) = refl
@@ -72,20 +63,16 @@ or-right false b e = e
 
 -- ---- a bare cell
 
-bare-end : (sep : ℕ) (t : List ℕ) → Parts sep → Follows sep t → cutFrom sep t bare ≡ consCell [] (cellsAfter sep t)
+bare-end : (sep : ℕ) (t : List ℕ) → Follows sep t → cutFrom sep t bare ≡ consCell [] (cellsAfter sep t)
 unfolding cutFrom Follows cellsAfter cut consCell
-bare-end sep [] s h = refl
-bare-end sep (x ∷ l) s h = rw h (pick-true _ _ (s .same) ∙ new-cons (cutFrom sep l (opening sep l)))
+bare-end sep [] h = refl
+bare-end sep (x ∷ l) h = pick-true _ _ (eq-eqb x sep h) ∙ new-cons (cutFrom sep l (opening sep l))
 
-bare-step : (sep x : ℕ) (l : List ℕ) → eqb x sep ≡ false → cutFrom sep (x ∷ l) bare ≡ onCell x (cutFrom sep l bare)
-unfolding cutFrom
-bare-step sep x l e = pick-false _ _ e
-
-pub bare-cut : (sep : ℕ) (c t : List ℕ) → Parts sep → has sep c ≡ false → Follows sep t → cutFrom sep (c ++ t) bare ≡ consCell c (cellsAfter sep t)
-unfolding has
-bare-cut sep [] t s n h = bare-end sep t s h
-bare-cut sep (x ∷ c) t s n h =
-    bare-step sep x (c ++ t) (or-left (eqb x sep) (has sep c) n) ∙ ap (onCell x) (bare-cut sep c t s (or-right (eqb x sep) (has sep c) n) h) ∙ on-cons x c (cellsAfter sep t)
+pub bare-cut : (sep : ℕ) (c t : List ℕ) → has sep c ≡ false → Follows sep t → cutFrom sep (c ++ t) bare ≡ consCell c (cellsAfter sep t)
+unfolding has cutFrom
+bare-cut sep [] t n h = bare-end sep t h
+bare-cut sep (x ∷ c) t n h =
+    pick-false _ _ (or-left (eqb x sep) (has sep c) n) ∙ ap (onCell x) (bare-cut sep c t (or-right (eqb x sep) (has sep c) n) h) ∙ on-cons x c (cellsAfter sep t)
 
 -- a list up to the first separator
 pub record UpTo (sep : ℕ) (l : List ℕ) : Type 0 where
@@ -285,7 +272,7 @@ unfolding cut
 bare-cell sep l s o =
     let u = up-to sep l in
     bareCell (u .cell) (u .rest) o (u .whole) (u .free) (u .follows)
-    (ap (cutFrom sep l) o ∙ ap (λ z. cutFrom sep z bare) (u .whole) ∙ bare-cut sep (u .cell) (u .rest) s (u .free) (u .follows))
+    (ap (cutFrom sep l) o ∙ ap (λ z. cutFrom sep z bare) (u .whole) ∙ bare-cut sep (u .cell) (u .rest) (u .free) (u .follows))
 
 inner-cell : (sep : ℕ) (b l : List ℕ) → Parts sep → AllBlank sep b → Inner sep l → FirstCell sep (b ++ (34 ∷ l))
 inner-cell sep b l s a (closes c e t w z h) = quotedCell b c e t a z (ap (λ y. b ++ (34 ∷ y)) w) h (ap (λ y. cut sep (b ++ (34 ∷ y))) w ∙ lead-cell sep b c e t s a z h)
@@ -321,4 +308,4 @@ open-clean sep (x ∷ c) t s k h = open-bare sep x (c ++ t) (k .0) (k .1)
 -- such a content without a separator in it is cut as it stands
 pub clean-cut : (sep : ℕ) (c t : List ℕ) → Parts sep → Clean sep c → has sep c ≡ false → Follows sep t → cut sep (c ++ t) ≡ consCell c (cellsAfter sep t)
 unfolding cut
-clean-cut sep c t s k n h = ap (cutFrom sep (c ++ t)) (open-clean sep c t s k h) ∙ bare-cut sep c t s n h
+clean-cut sep c t s k n h = ap (cutFrom sep (c ++ t)) (open-clean sep c t s k h) ∙ bare-cut sep c t n h

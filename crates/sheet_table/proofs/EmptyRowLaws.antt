@@ -11,7 +11,8 @@ use Rattle.midicsv.specs.PieceOfText.{skipped, tellLine}
 use Rattle.sheet_table.specs.Cut.{has, blankBeside, skipBeside, begins, opening, cutFrom, cut, isNone}
 use Rattle.sheet_table.specs.Table.{isEmpty, allEmpty, keepBefore, dropEmpty, requote, plainCells, textAt, rowFields, joined, rowLine, ofCut, isRemark, lineBy, cellsLine, tableLine}
 use Rattle.sheet_table.specs.Ways.{Separator, comma, semicolon, tab, sepByte, savedCell, savedExtra, emptyRow}
-use Rattle.sheet_table.proofs.CutLaws.{consCell, Clean}
+use Rattle.sheet_table.specs.Code.Cells.{consCell}
+use Rattle.sheet_table.proofs.CutLaws.{Clean}
 use Rattle.sheet_table.proofs.AnyKeptLaws.{empty-passed, tell-passed}
 use Rattle.sheet_table.proofs.SavedRowLaws.{parts, cell-cut, empties, follows-extra, extra-cut}
 

@@ -19,7 +19,8 @@ use Rattle.midicsv.proofs.FieldPartLaws.{push-ok}
 use Rattle.midicsv.proofs.QuotedReadLaws.{push-eq}
 use Rattle.sheet_table.specs.Cut.{has, begins, bare, lead, opening, cutFrom, cut, isNone}
 use Rattle.sheet_table.specs.Table.{isEmpty, doubled, requote}
-use Rattle.sheet_table.proofs.CutLaws.{parts-comma, Follows, cellsAfter, consCell, bare-cut, lead-cell}
+use Rattle.sheet_table.specs.Code.Cells.{cellsAfter, consCell}
+use Rattle.sheet_table.proofs.CutLaws.{parts-comma, Follows, bare-cut, lead-cell}
 use Rattle.sheet_table.proofs.BareFieldLaws.{Inside, inside-high, digit-least, inside-has, NoReturn, inside-return, Blanks, skip-same, blanks-beside, blanks-inside, skip-blanks, skipped, Stops, ends-stop, number-taken, letters}
 use Rattle.sheet_table.proofs.TableLinesLaws.{doubled-in}
 use Rattle.sheet_table.proofs.QuotedFieldLaws.{quoted-part}
@@ -114,7 +115,7 @@ opens-bare b c l a n q = ap (λ z. pick (begins 34 z) lead bare) (skip-same (b +
 
 bare-opened : (l c t : List ℕ) → opening 44 l ≡ bare → l ≡ c ++ t → has 44 c ≡ false → Follows 44 t → cut 44 l ≡ consCell c (cellsAfter 44 t)
 unfolding cut
-bare-opened l c t o e n h = ap (cutFrom 44 l) o ∙ ap (λ z. cutFrom 44 z bare) e ∙ bare-cut 44 c t parts-comma n h
+bare-opened l c t o e n h = ap (cutFrom 44 l) o ∙ ap (λ z. cutFrom 44 z bare) e ∙ bare-cut 44 c t n h
 
 module _ (b x e : List ℕ) (c : ℕ) (f : Field) (before : Blanks b) (after : Blanks e) (inside : All Inside (c ∷ x)) (first : isBlank c ≡ false)
     (noText : isText f ≡ false) (size : nameSize f ≤ suc (length x)) (again : (t : List ℕ) → Stops t → fieldOf (c ∷ (x ++ t)) ≡ finish f t) where

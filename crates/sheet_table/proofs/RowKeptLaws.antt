@@ -16,7 +16,7 @@ use Rattle.midicsv.proofs.AllLaws.{all-append}
 use Rattle.midicsv.proofs.FieldReadLaws.{Ends}
 use Rattle.sheet_table.specs.Cut.{has, cut}
 use Rattle.sheet_table.specs.Table.{isEmpty, keepBefore, dropEmpty, requote, plainCell, plainCells, furtherJoined, joined}
-use Rattle.sheet_table.proofs.CutLaws.{cellsAfter, consCell}
+use Rattle.sheet_table.specs.Code.Cells.{cellsAfter, consCell}
 use Rattle.sheet_table.proofs.BareFieldLaws.{NoReturn}
 use Rattle.sheet_table.proofs.FieldCellLaws.{Reads, isText, Bare, Holds, barely, inQuotes, FieldCell, field-cell}
 

@@ -25,7 +25,8 @@ use Rattle.midicsv.proofs.TextReadLaws.{AllSound, piece-sound}
 use Rattle.sheet_table.specs.Cut.{has, cut}
 use Rattle.sheet_table.specs.Table.{requote, rowLine, ofCut, lineBy, cellsLine, tableLine, sepIn, tableText}
 use Rattle.sheet_table.specs.Ways.{Separator, comma, semicolon, tab, sepByte, RowWay, savedRow, savedRows, wrappedRow, wrappedRows, Layout, inCells, inOneCell, tableRows, layoutSep, Way, emptyLines, withEnds, orderMark, saved}
-use Rattle.sheet_table.proofs.CutLaws.{parts-comma, Follows, cellsAfter, consCell, requoted-cut}
+use Rattle.sheet_table.specs.Code.Cells.{cellsAfter, consCell}
+use Rattle.sheet_table.proofs.CutLaws.{parts-comma, Follows, requoted-cut}
 use Rattle.sheet_table.proofs.TableLinesLaws.{list-pick, requote-in}
 use Rattle.sheet_table.proofs.RecordKeptLaws.{line-kept}
 use Rattle.sheet_table.proofs.AnyKeptLaws.{one-alone, line-cells, read-line, row-told, advance-ok, advance-on}

@@ -19,7 +19,8 @@ use Rattle.midicsv.proofs.RecordReadLaws.{Sound, record-read, fields-good}
 use Rattle.sheet_table.specs.Cut.{has, isNone, cut}
 use Rattle.sheet_table.specs.Table.{isEmpty, keepBefore, dropEmpty, requote, plainCell, plainCells, fieldsTo, TextPlace, nowhere, after, textFrom, textAt, rowFields, joined, rowLine, ofCut, isRemark, lineBy, cellsLine, tableLine}
 use Rattle.sheet_table.specs.Ways.{Separator, comma, semicolon, tab, sepByte, cellOf, savedCell, savedExtra, savedFurther, savedRow}
-use Rattle.sheet_table.proofs.CutLaws.{Parts, parts-comma, parts-semicolon, parts-tab, Follows, cellsAfter, consCell, or-left, or-right, requoted-cut, Clean, clean-cut}
+use Rattle.sheet_table.specs.Code.Cells.{cellsAfter, consCell}
+use Rattle.sheet_table.proofs.CutLaws.{Parts, parts-comma, parts-semicolon, parts-tab, Follows, or-left, or-right, requoted-cut, Clean, clean-cut}
 use Rattle.sheet_table.proofs.FieldCellLaws.{isText}
 use Rattle.sheet_table.proofs.RowKeptLaws.{HoldAll, to-bare}
 use Rattle.sheet_table.proofs.RecordKeptLaws.{text-place, name-again, not-alone, record-back, fields-back}

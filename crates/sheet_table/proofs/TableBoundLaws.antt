@@ -18,7 +18,8 @@ use Rattle.midicsv.specs.Lines.{onto, linesOf, trimmed, isComment, passedOver}
 use Rattle.midicsv.proofs.ResultLaws.{not-good, good-same}
 use Rattle.sheet_table.specs.Cut.{has, blankBeside, skipBeside, begins, bare, opening, onCell, newCell, cutFrom, cut, isNone}
 use Rattle.sheet_table.specs.Table.{isEmpty, allEmpty, keepBefore, dropEmpty, doubled, requote, plainCell, plainCells, fieldsTo, TextPlace, nowhere, after, textFrom, textOfName, nameIn, textAt, rowFields, furtherJoined, joined, rowLine, ofCut, isRemark, lineBy, cellsLine, tableLine, sepIn, sepOf, unmarked, tableLines, tableOf, tableText}
-use Rattle.sheet_table.proofs.CutLaws.{Parts, parts-comma, parts-semicolon, parts-tab, cellsAfter, consCell, or-right, bare-first, FirstCell, bareCell, quotedCell, noCell, first-cell}
+use Rattle.sheet_table.specs.Code.Cells.{cellsAfter, consCell}
+use Rattle.sheet_table.proofs.CutLaws.{Parts, parts-comma, parts-semicolon, parts-tab, or-right, bare-first, FirstCell, bareCell, quotedCell, noCell, first-cell}
 use Rattle.sheet_table.proofs.NameSizeLaws.{name-long}
 use Rattle.sheet_table.proofs.FieldCellLaws.{isText, nameSize, field-cell, Holds, barely, inQuotes}
 

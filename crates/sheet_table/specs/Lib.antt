@@ -4,3 +4,4 @@ pub mod TableAnswer
 pub mod TableReadings
 pub mod Ways
 pub mod WaysReadings
+pub mod Code

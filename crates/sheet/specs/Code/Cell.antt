@@ -8,21 +8,12 @@ use lib.Dec.{eqb}
 use Rattle.event.specs.Choice.{pick}
 use Rattle.midicsv.specs.Result.{Result, good, bad}
 use Rattle.sheet_table.specs.Cut.{has, blankBeside, skipBeside, begins, quotes, closed, cutFrom, cut}
+use Rattle.sheet_table.specs.Code.Cells.{consCell, cellsAfter}
 use Rattle.sheet_table.specs.Table.{doubled}
 use Rattle.sheet.specs.Code.Seen.{singled, seen, slice, Reached}
 use Rattle.sheet.specs.declared.Cell.{Cell}
 use Rattle.sheet.specs.declared.CellStep.{CellStep}
 use Rattle.sheet.specs.declared.CellStep.the-variants.{Found, Open}
-
--- a cell in front of others
-unfoldable pub consCell : List ℕ → Result (List (List ℕ)) → Result (List (List ℕ))
-consCell c (good cs) = good (c ∷ cs)
-consCell c (bad n) = bad n
-
--- the cells after one that ends here: none at the line's end, else those after the separator
-unfoldable pub cellsAfter : ℕ → List ℕ → Result (List (List ℕ))
-cellsAfter sep [] = good []
-cellsAfter sep (x ∷ l) = cut sep l
 
 -- the content of a cell by its bytes: in quotes two quotes are one
 unfoldable pub contentOf : Bool → List ℕ → List ℕ
