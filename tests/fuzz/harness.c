@@ -141,7 +141,7 @@ static uint32_t hash_of(const uint8_t *data, size_t size)
 static void compare_in_rooms(const uint8_t *data, size_t size, uint32_t manner, uint32_t hash)
 {
     size_t needed = NOFERKASH_LENGTH(compare(data, size, manner, 0, hash % 2));
-    size_t enough = function.enough * size;
+    size_t enough = function.enough * size + function.enough_added;
 
     if (needed > 0) {
         compare(data, size, manner, needed - 1, EDGE_HIGH);

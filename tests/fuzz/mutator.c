@@ -1,5 +1,6 @@
 /* libFuzzer's own changes, and after every other one of them a mending: without it
- * most files die at their header or a track's length, most texts at a track number. */
+ * most files die at their header or a track's length, most texts at a track number. In
+ * tables nothing is to be mended: each has its text. */
 #include "mend.h"
 #include "programs.h"
 
@@ -24,12 +25,14 @@ size_t LLVMFuzzerCustomMutator(uint8_t *data, size_t size, size_t most, unsigned
     struct input input = { data, LLVMFuzzerMutate(data, size, most), most };
     unsigned rounds = seed % 2 == 0 ? 0 : seed / 2 % MENDED_AT_MOST;
 
-    if (function.takes_text && seed % 3 == 0)
+    if (function.takes == TABLES)
+        return input.size;
+    if (function.takes == TEXTS && seed % 3 == 0)
         change_number(&input, seed / 64);
     /* Not always to the end: faults must stay too. */
     for (; rounds > 0; rounds--) {
-        int mended = function.takes_text ? mend_text(&input, seed / 64 + rounds)
-                                         : mend_file(&input);
+        int mended = function.takes == TEXTS ? mend_text(&input, seed / 64 + rounds)
+                                             : mend_file(&input);
 
         if (!mended)
             break;

@@ -16,9 +16,13 @@ static int is_planted(const char *fault, const char *program)
         && strcmp(where, program) == 0;
 }
 
-/* A refusal that few inputs meet: a value of a meta event, a step in Time. */
+/* A refusal that few inputs meet: a value of a meta event, a step in Time; of a table,
+ * which no content is wrong for, too small a room for some length. */
 static int is_rare_refusal(uint64_t answer)
 {
+    if (function.takes == TABLES)
+        return NOFERKASH_NUMBER(answer) == NOFERKASH_ROOM_TOO_SMALL
+            && NOFERKASH_LENGTH(answer) % 32 == 19;
     return NOFERKASH_NUMBER(answer) == NOFERKASH_BAD_META_VALUE
         || NOFERKASH_NUMBER(answer) == NOFERKASH_STEP_TOO_GREAT;
 }

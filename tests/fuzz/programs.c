@@ -7,7 +7,9 @@
     uint64_t program##_file_to_text(const uint8_t *, size_t, uint8_t *, size_t); \
     uint64_t program##_text_to_file(const uint8_t *, size_t, uint32_t, uint8_t *, size_t); \
     uint64_t program##_tidy(const uint8_t *, size_t, uint8_t *, size_t); \
-    uint64_t program##_fold(const uint8_t *, size_t, uint8_t *, size_t);
+    uint64_t program##_fold(const uint8_t *, size_t, uint8_t *, size_t); \
+    uint64_t program##_file_to_sheet(const uint8_t *, size_t, uint8_t *, size_t); \
+    uint64_t program##_sheet_to_text(const uint8_t *, size_t, uint8_t *, size_t);
 
 DECLARE(second)
 #ifdef INSTRUMENTED
@@ -19,6 +21,8 @@ DECLARE(instrumented)
 #define ARGUMENTS_tidy ARGUMENTS_check, call->room, call->room_length
 #define ARGUMENTS_fold ARGUMENTS_tidy
 #define ARGUMENTS_file_to_text ARGUMENTS_tidy
+#define ARGUMENTS_file_to_sheet ARGUMENTS_tidy
+#define ARGUMENTS_sheet_to_text ARGUMENTS_tidy
 #define ARGUMENTS_text_to_file ARGUMENTS_check, call->manner, call->room, call->room_length
 
 #define JOINED(a, b) a##b
@@ -44,12 +48,14 @@ RUN(instrumented)
 #define run_instrumented NULL
 #endif
 
-/* The facts of each function: manner, room, enough, text. */
-#define FACTS_check 0, 0, 0, 0
-#define FACTS_tidy 0, 1, 0, 0
+/* The facts of each function: manner, room, enough, enough_added, takes. */
+#define FACTS_check 0, 0, 0, 0, FILES
+#define FACTS_tidy 0, 1, 0, 0, FILES
 #define FACTS_fold FACTS_tidy
-#define FACTS_file_to_text 0, 1, 25, 0
-#define FACTS_text_to_file 1, 1, 0, 1
+#define FACTS_file_to_text 0, 1, 25, 0, FILES
+#define FACTS_text_to_file 1, 1, 0, 0, TEXTS
+#define FACTS_file_to_sheet 0, 1, 23, 0, FILES
+#define FACTS_sheet_to_text 0, 1, 2, 2, TABLES
 
 const struct function function = {
     SHOWN(FUZZED), JOIN(FACTS_, FUZZED), run_second, run_noferkash, run_instrumented,

@@ -17,12 +17,15 @@ struct call {
 
 typedef uint64_t run_function(const struct call *call);
 
+enum input_kind { FILES, TEXTS, TABLES };
+
 struct function {
     const char *name;
     int has_manner;
     int has_room;
-    size_t enough; /* so many bytes of room for each of input always do; 0: not known */
-    int takes_text;
+    size_t enough;       /* so many bytes of room for each of input always do; 0: not known */
+    size_t enough_added; /* with so many more */
+    enum input_kind takes;
     run_function *second;
     run_function *archive;
     run_function *instrumented; /* NULL if that build of the library is not there */

@@ -108,7 +108,7 @@ fn edited(name: &str, file: Vec<u8>) -> Vec<u8> {
     edited
 }
 
-/// What is stored of fuzzing, `files` or `texts`, in order of names; at least one.
+/// What is stored of fuzzing, `files`, `texts` or `tables`, in order of names; at least one.
 pub fn kept(kind: &str) -> Vec<Vec<u8>> {
     let folder = folder("fuzz/kept").join(kind);
     let entries = fs::read_dir(&folder).expect("the folder fuzz/kept");

@@ -6,6 +6,8 @@ use std::slice;
 
 use second::fold;
 use second::operations;
+use second::sheet;
+use second::table;
 
 /// # Safety
 /// `file` is valid for `file_len` bytes and not null.
@@ -38,3 +40,5 @@ export!(second_file_to_text, operations::file_to_text);
 export!(second_text_to_file, operations::text_to_file, manner: u32);
 export!(second_tidy, operations::tidy);
 export!(second_fold, fold::fold);
+export!(second_file_to_sheet, sheet::file_to_sheet);
+export!(second_sheet_to_text, table::sheet_to_text);

@@ -246,7 +246,7 @@ fn on_tables(mut run: Run, cases: u64, first: u64) -> bool {
         }
     });
     run.table_limits("limits", &table_limit_cases());
-    on_kept(&mut run, "texts");
+    on_kept(&mut run, "tables");
     run.report(&[0, 14, 21, 38])
 }
 
