@@ -69,7 +69,10 @@ pub fn is_remark_line(part: &[u8], sep: u8, twice: bool) -> bool
     if c != 59 {
         return false;
     }
-    sep != 59
+    if sep == 59 {
+        return false;
+    }
+    true
 }
 
 // Whether a cell's bytes are blanks alone, however they are read.
