@@ -1,8 +1,11 @@
 //! What the files of a run held. A run that compares texts must have met every
-//! kind of event, data of the lengths at which a number grows by a byte, and every
-//! byte value; else it says less than it seems to.
+//! kind of event, deltas and data of the lengths at which a number grows by a byte, and
+//! every byte value; else it says less than it seems to.
 
-use crate::piece::{Kind, Piece};
+use crate::piece::{Delta, Kind, Piece, Time, Track};
+
+/// The deltas that are due: the least and the greatest of each size of number.
+pub const DELTAS: [u32; 8] = [0, 127, 128, 16_383, 16_384, 2_097_151, 2_097_152, 268_435_455];
 
 /// The lengths of data that are due in every kind which has data.
 pub const LENGTHS: [usize; 5] = [0, 127, 128, 16_383, 16_384];
@@ -52,6 +55,7 @@ fn with_data() -> impl Iterator<Item = usize> {
 /// How often each was met.
 pub struct Coverage {
     kinds: [u64; 26],
+    deltas: [u64; DELTAS.len()],
     lengths: [[u64; LENGTHS.len()]; 26],
     text_bytes: [u64; 256],
     data_bytes: [u64; 256],
@@ -61,6 +65,7 @@ impl Default for Coverage {
     fn default() -> Coverage {
         Coverage {
             kinds: [0; 26],
+            deltas: [0; DELTAS.len()],
             lengths: [[0; LENGTHS.len()]; 26],
             text_bytes: [0; 256],
             data_bytes: [0; 256],
@@ -70,6 +75,7 @@ impl Default for Coverage {
 
 impl Coverage {
     pub fn add(&mut self, piece: &Piece) {
+        piece.tracks.iter().for_each(|track| self.add_deltas(track));
         for event in piece.tracks.iter().flat_map(|track| &track.events) {
             let (kind, data) = sorted(&event.kind);
             self.kinds[kind] += 1;
@@ -82,10 +88,23 @@ impl Coverage {
         }
     }
 
+    fn add_deltas(&mut self, track: &Track) {
+        let mut before = Time::START;
+        for event in &track.events {
+            let met = event.time.since(before);
+            if let Some(index) = DELTAS.iter().position(|delta| Some(Delta(*delta)) == met) {
+                self.deltas[index] += 1;
+            }
+            before = event.time;
+        }
+    }
+
     /// What was due but never met, in words.
     pub fn missing(&self) -> Vec<String> {
         let kinds = (0..NAMES.len()).filter(|kind| self.kinds[*kind] == 0);
         let mut missing: Vec<String> = kinds.map(|kind| NAMES[kind].to_owned()).collect();
+        let deltas = (0..DELTAS.len()).filter(|index| self.deltas[*index] == 0);
+        missing.extend(deltas.map(|index| format!("delta {}", DELTAS[index])));
         for kind in with_data() {
             for (index, length) in LENGTHS.iter().enumerate() {
                 if self.lengths[kind][index] == 0 {
@@ -110,10 +129,13 @@ impl Coverage {
             })
             .collect();
         format!(
-            "each of {} records at least {} times, of the 11 with data each length at least so \
-             often: {}; each byte value at least {} times in texts, {} in other data",
+            "each of {} records at least {} times, each of {} deltas at least {} times, of the 11 \
+             with data each length at least so often: {}; each byte value at least {} times in \
+             texts, {} in other data",
             NAMES.len(),
             least(&self.kinds),
+            DELTAS.len(),
+            least(&self.deltas),
             lengths.join(", "),
             least(&self.text_bytes),
             least(&self.data_bytes),
@@ -124,10 +146,10 @@ impl Coverage {
 #[test]
 fn what_was_not_met_is_missed() {
     use crate::generate::{kind_of, Rng, KINDS};
-    use crate::piece::{Division, Event, Format, TextKind, Time, Track};
+    use crate::piece::{Division, Event, Format, TextKind};
 
     let mut coverage = Coverage::default();
-    assert_eq!(coverage.missing().len(), 26 + 11 * LENGTHS.len() + 2 * 256);
+    assert_eq!(coverage.missing().len(), 26 + DELTAS.len() + 11 * LENGTHS.len() + 2 * 256);
     let rng = &mut Rng::new(0);
     let mut kinds: Vec<Kind> = (0..KINDS).map(|number| kind_of(rng, number, 0)).collect();
     kinds.extend(TextKind::ALL.map(|text| Kind::Text(text, (0..=255).collect())));
@@ -142,12 +164,21 @@ fn what_was_not_met_is_missed() {
         }
     }
     kinds.push(Kind::SequencerSpecific((0..=254).collect()));
-    let events = kinds.into_iter().map(|kind| Event { time: Time::START, kind }).collect();
-    let (format, division) = (Format::OneTrack, Division::Pulses(96));
-    coverage.add(&Piece { format, division, tracks: vec![Track { events }] });
+    let at_start =
+        Track { events: kinds.into_iter().map(|kind| Event { time: Time::START, kind }).collect() };
+    // One after the other, but for the last of the deltas.
+    let times = DELTAS[..7].iter().scan(Time::START, |time, delta| {
+        *time = time.after(Delta(*delta))?;
+        Some(*time)
+    });
+    let later =
+        Track { events: times.map(|time| Event { time, kind: Kind::ChannelPrefix(0) }).collect() };
+    let (format, division) = (Format::Together, Division::Pulses(96));
+    coverage.add(&Piece { format, division, tracks: vec![at_start, later] });
     let missing = coverage.missing();
+    assert!(missing.contains(&"delta 268435455".to_owned()), "{missing:?}");
     assert!(missing.contains(&"Unknown_meta_event of length 128".to_owned()), "{missing:?}");
     assert!(!missing.iter().any(|word| word.starts_with("text byte")), "{missing:?}");
     let of_data = missing.iter().filter(|word| word.starts_with("data byte"));
-    assert!(of_data.eq(["data byte 255"]) && missing.len() == 2, "{missing:?}");
+    assert!(of_data.eq(["data byte 255"]) && missing.len() == 3, "{missing:?}");
 }

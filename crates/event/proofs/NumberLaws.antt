@@ -3,9 +3,9 @@ use mathlib.Core.Path.{_≡_, ap, _∙_}
 use Prim.Native.Nat.{ℕ, suc, _+_, _-_, _*_, _/_, _%_, _<_, _≤_}
 use mathlib.Core.List.{List, [], _∷_, _++_}
 use native.Mathlib.Omega.{arith}
-use lib.Dec.{ltb}
+use lib.Dec.{ltb, leb}
 use lib.ListN.{length}
-use borrow.Author.Tests.{ltb-true, ltb-false, lt-ltb, le-ltb}
+use borrow.Author.Tests.{ltb-true, ltb-false, lt-ltb, le-ltb, leb-true, leb-false, le-leb, lt-leb}
 use Rattle.event.specs.Choice.{pick}
 use Rattle.event.specs.Bytes.{Bytes}
 use Rattle.event.specs.Number.{Width, w1, w2, w3, w4, limit, vlq, least}
@@ -102,21 +102,44 @@ limit-most w2 = omega arith
 limit-most w3 = omega arith
 limit-most w4 = omega arith
 
--- by cases on the bounds that tell the widths apart
+-- the size, by the bounds
+module _ (v : ℕ) where
+  pub in-one : v ≤ 127 → least v ≡ w1
+  unfolding least pick
+  in-one h = rw (le-leb _ _ h)
+
+  pub in-two : 127 < v → v ≤ 16383 → least v ≡ w2
+  unfolding least pick
+  in-two g h = rw (lt-leb _ _ g, le-leb _ _ h)
+
+  pub in-three : 16383 < v → v ≤ 2097151 → least v ≡ w3
+  unfolding least pick
+  in-three g h = let f : 127 < v = omega arith in rw (lt-leb _ _ f, lt-leb _ _ g, le-leb _ _ h)
+
+  pub in-four : 2097151 < v → least v ≡ w4
+  unfolding least pick
+  in-four g =
+      let e : 127 < v = omega arith in
+      let f : 16383 < v = omega arith in
+      rw (lt-leb _ _ e, lt-leb _ _ f, lt-leb _ _ g)
+
+-- every number has one of them
 least-cases : {X : Type 0} (v : ℕ)
-    → (least v ≡ w1 → v < 128 → X) → (least v ≡ w2 → 128 ≤ v → v < 16384 → X)
-    → (least v ≡ w3 → 16384 ≤ v → v < 2097152 → X) → (least v ≡ w4 → 2097152 ≤ v → X) → X
-unfolding least pick
+    → (least v ≡ w1 → v ≤ 127 → X) → (least v ≡ w2 → 127 < v → v ≤ 16383 → X)
+    → (least v ≡ w3 → 16383 < v → v ≤ 2097151 → X) → (least v ≡ w4 → 2097151 < v → X) → X
 least-cases v f1 f2 f3 f4 =
-    by-test (ltb v 128) (λ t. f1 (rw t) (ltb-true v 128 t)) (λ n1.
-    by-test (ltb v 16384) (λ t. f2 (rw (n1, t)) (ltb-false v 128 n1) (ltb-true v 16384 t)) (λ n2.
-    by-test (ltb v 2097152) (λ t. f3 (rw (n1, n2, t)) (ltb-false v 16384 n2) (ltb-true v 2097152 t)) (λ n3.
-    f4 (rw (n1, n2, n3)) (ltb-false v 2097152 n3))))
+    by-test (leb v 127) (λ t. let h = leb-true v 127 t in f1 (in-one v h) h) (λ n1.
+    let g1 = leb-false v 127 n1 in
+    by-test (leb v 16383) (λ t. let h = leb-true v 16383 t in f2 (in-two v g1 h) g1 h) (λ n2.
+    let g2 = leb-false v 16383 n2 in
+    by-test (leb v 2097151) (λ t. let h = leb-true v 2097151 t in f3 (in-three v g2 h) g2 h) (λ n3.
+    let g3 = leb-false v 2097151 n3 in
+    f4 (in-four v g3) g3)))
 
 -- a number that fits some bytes fits the writers'
 pub least-fits : (w : Width) (v : ℕ) → v < limit w → v < limit (least v)
 least-fits w v h =
-    least-cases v (λ e l. rw e l) (λ e g l. rw e l) (λ e g l. rw e l) (λ e g. let m = limit-most w in rw e (omega arith))
+    least-cases v (λ e l. rw e (omega arith)) (λ e g l. rw e (omega arith)) (λ e g l. rw e (omega arith)) (λ e g. let m = limit-most w in rw e (omega arith))
 
 -- and no bytes that it fits are fewer
 pub least-fewest : (w : Width) (v : ℕ) → v < limit w → length (vlq (least v) v) ≤ length (vlq w v)

@@ -1,7 +1,7 @@
 -- "A variable-length number has 1 to 4 bytes, seven bits each, high part first, top bit set on all but the last".
 use Prim.Native.Nat.{ℕ, _+_, _/_, _%_}
 use mathlib.Core.List.{List, [], _∷_}
-use lib.Dec.{ltb}
+use lib.Dec.{leb}
 use Rattle.event.specs.Choice.{pick}
 
 -- how many bytes it takes
@@ -22,6 +22,10 @@ vlq w2 v = (128 + v / 128) ∷ v % 128 ∷ []
 vlq w3 v = (128 + v / 16384) ∷ (128 + v / 128 % 128) ∷ v % 128 ∷ []
 vlq w4 v = (128 + v / 2097152) ∷ (128 + v / 16384 % 128) ∷ (128 + v / 128 % 128) ∷ v % 128 ∷ []
 
--- "Writers use the fewest bytes"
+-- "Writers use the fewest bytes": four sizes, with "the bounds 127, 16,383 and 2,097,151"
 unfoldable pub least : ℕ → Width
-least v = pick (ltb v 128) w1 (pick (ltb v 16384) w2 (pick (ltb v 2097152) w3 w4))
+least v =
+    pick (leb v 127) w1
+    (pick (leb v 16383) w2
+    (pick (leb v 2097151) w3
+    w4))

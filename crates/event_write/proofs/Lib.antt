@@ -3,3 +3,4 @@ pub mod PatchLaws
 pub mod NumberLaws
 pub mod HeadLaws
 pub mod DataLaws
+pub mod Sizes

@@ -1,41 +1,10 @@
 -- A number in the fewest bytes, as the code has them.
-use mathlib.Core.Path.{_≡_, ap}
-use mathlib.Core.List.{[], _∷_}
-use Prim.Native.Nat.{ℕ, _+_, _/_, _%_, _<_, _≤_}
+use mathlib.Core.Path.{_≡_}
+use Prim.Native.Nat.{ℕ, _%_, _<_, _≤_}
 use native.Mathlib.Omega.{arith}
 use lib.ListN.{length}
-use borrow.Author.Tests.{lt-ltb, le-ltb}
-use Rattle.event.specs.Choice.{pick}
 use Rattle.event.specs.Number.{Width, w1, w2, w3, w4, vlq, least}
 use Rattle.event_write.specs.Head.{fewest}
-
-module _ (v : ℕ) where
-  pub in-one : v < 128 → vlq (least v) v ≡ v % 128 ∷ []
-  unfolding vlq least pick
-  in-one h =
-      let a : v ≡ v % 128 = omega arith in
-      rw (lt-ltb _ _ h) (ap (λ x. x ∷ []) a)
-
-  pub in-two : 128 ≤ v → v < 16384 → vlq (least v) v ≡ (128 + v / 128 % 128) ∷ v % 128 ∷ []
-  unfolding vlq least pick
-  in-two g h =
-      let a : v / 128 ≡ v / 128 % 128 = omega arith in
-      rw (le-ltb _ _ g, lt-ltb _ _ h) (ap (λ x. (128 + x) ∷ v % 128 ∷ []) a)
-
-  pub in-three : 16384 ≤ v → v < 2097152 → vlq (least v) v ≡ (128 + v / 16384 % 128) ∷ (128 + v / 128 % 128) ∷ v % 128 ∷ []
-  unfolding vlq least pick
-  in-three g h =
-      let f : 128 ≤ v = omega arith in
-      let a : v / 16384 ≡ v / 16384 % 128 = omega arith in
-      rw (le-ltb _ _ f, le-ltb _ _ g, lt-ltb _ _ h) (ap (λ x. (128 + x) ∷ (128 + v / 128 % 128) ∷ v % 128 ∷ []) a)
-
-  pub in-four : 2097152 ≤ v → v < 268435456 → vlq (least v) v ≡ (128 + v / 2097152 % 128) ∷ (128 + v / 16384 % 128) ∷ (128 + v / 128 % 128) ∷ v % 128 ∷ []
-  unfolding vlq least pick
-  in-four g h =
-      let e : 128 ≤ v = omega arith in
-      let f : 16384 ≤ v = omega arith in
-      let a : v / 2097152 ≡ v / 2097152 % 128 = omega arith in
-      rw (le-ltb _ _ e, le-ltb _ _ f, le-ltb _ _ g) (ap (λ x. (128 + x) ∷ (128 + v / 16384 % 128) ∷ (128 + v / 128 % 128) ∷ v % 128 ∷ []) a)
 
 pub width-length : (w : Width) (v : ℕ) → length (vlq w v) ≤ 4
 unfolding vlq

@@ -1,2 +1,3 @@
 pub mod Written
 pub mod Head
+pub mod Sizes

@@ -1,10 +1,9 @@
-// Bytes, runs of bytes and numbers.
+// Bytes, runs of bytes and numbers of two to four bytes.
 ghost use mathlib.Core.List.{[], _∷_};
 ghost use Prim.Native.Nat.{_<_, _^_};
 ghost use lib.ListN.{length};
 ghost use Rattle.event.specs.Bytes.{bigEndian};
 ghost use Rattle.event_write.specs.Written.{Written};
-ghost use Rattle.event_write.specs.Head.{fewest};
 
 pub fn put_byte(out: &mut [u8], at: usize, b: u8) -> usize
     requires { ⌜ at < 2 ^ 48 ⌝ }
@@ -29,30 +28,6 @@ pub fn put_bytes(out: &mut [u8], at: usize, bytes: &[u8]) -> usize
         i = i + 1;
     }
     next
-}
-
-// A number of 28 bits in the fewest bytes.
-pub fn put_number(out: &mut [u8], at: usize, number: u32) -> usize
-    requires { ⌜ at < 2 ^ 47 ⌝ }
-    ensures { λ r. ⌜ Written (now (out .entry)) at (fewest number) (now (out .exit)) r ⌝ }
-{
-    let n = number % 268435456;
-    if n < 128 {
-        return put_byte(out, at, (n % 128) as u8);
-    }
-    if n < 16384 {
-        let a = put_byte(out, at, (128 + n / 128 % 128) as u8);
-        return put_byte(out, a, (n % 128) as u8);
-    }
-    if n < 2097152 {
-        let a = put_byte(out, at, (128 + n / 16384 % 128) as u8);
-        let b = put_byte(out, a, (128 + n / 128 % 128) as u8);
-        return put_byte(out, b, (n % 128) as u8);
-    }
-    let a = put_byte(out, at, (128 + n / 2097152 % 128) as u8);
-    let b = put_byte(out, a, (128 + n / 16384 % 128) as u8);
-    let c = put_byte(out, b, (128 + n / 128 % 128) as u8);
-    put_byte(out, c, (n % 128) as u8)
 }
 
 // A number of two, three and four bytes, high byte first.

@@ -4,9 +4,9 @@ ghost use Prim.Native.Nat.{_+_, _<_, _^_};
 ghost use Rattle.event_write.specs.Written.{Written};
 ghost use Rattle.event_write.specs.Head.{fewest, mannerOf, statusBytes, metaBytes, longBytes, tailBytes, headBytes};
 use super::bytes::put_byte;
-use super::bytes::put_number;
 use super::bytes::put_three;
 use super::bytes::put_two;
+use super::number::put_number;
 
 // The status of a channel event: in the short manner it is left out where it is in force.
 fn put_status(out: &mut [u8], at: usize, status: u8, force: u8, short: bool) -> usize

@@ -9,7 +9,7 @@ use super::{answer_to_text, cells, file_of_text, quoted, refused, text_of_file, 
 /// A table's head, the least number of its rows, and what tries a row.
 type Table = (&'static str, usize, fn(&str, &str, &mut Tally) -> Option<()>);
 const TABLES: [Table; 5] = [
-    ("| Bytes | Number |", 10, number),
+    ("| Bytes | Number |", 16, number),
     ("| Bytes of an event | Record, without Track and Time |", 8, event),
     ("| File | Answer |", 25, file),
     ("| Line | Answer |", 44, line),
@@ -17,6 +17,8 @@ const TABLES: [Table; 5] = [
 ];
 /// The place of the first event in a file.
 const EVENTS: usize = 22;
+/// A leading byte that adds nothing to a variable-length number.
+const PADDING: u8 = 0x80;
 
 pub fn examples(page: &str, tally: &mut Tally) {
     for (head, least, try_row) in TABLES {
@@ -53,7 +55,7 @@ fn worked(page: &str, tally: &mut Tally) -> Option<()> {
     Some(())
 }
 
-/// A number as the delta of a file's only event.
+/// A number as the delta of a file's only event, read, and written where it takes the fewest bytes.
 fn number(bytes: &str, due: &str, tally: &mut Tally) -> Option<()> {
     let delta = bytes_of(quoted(bytes)?)?;
     let file = with_events(&[&delta[..], b"\xFF\x2F\0"].concat());
@@ -64,6 +66,9 @@ fn number(bytes: &str, due: &str, tally: &mut Tally) -> Option<()> {
             let due: u32 = due.parse().ok()?;
             let line = third(&text);
             tally.equal(bytes, &line, &format!("1, {due}, End_track"));
+            if delta[0] != PADDING {
+                tally.equal(&format!("{bytes}, written"), &file_of_text(&text, 1).1, &file);
+            }
         }
     }
     Some(())

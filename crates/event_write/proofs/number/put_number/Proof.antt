@@ -1,12 +1,13 @@
 -- A number in the fewest bytes: one case for each count of bytes.
 use Prim.Native.Nat.{_%_}
+use Rattle.event.specs.Number.{vlq}
+use Rattle.event.proofs.NumberLaws.{in-one, in-two, in-three, in-four}
 use Rattle.event_write.specs.Head.{fewest}
 use Rattle.event_write.proofs.WriteLaws.{then}
-use Rattle.event_write.proofs.NumberLaws.{in-one, in-two, in-three, in-four}
 use native.Mathlib.Omega.{arith}
 use borrow.Author.Needs.{needs}
-use Rattle.event_write.proofs.bytes.put_number.Statement.{statement}
-use Rattle.event_write.proofs.bytes.put_number.Tie as tie
+use Rattle.event_write.proofs.number.put_number.Statement.{statement}
+use Rattle.event_write.proofs.number.put_number.Tie as tie
 
 cast-put-byte : tie.Need-cast-put-byte
 cast-put-byte c = search needs
@@ -18,7 +19,7 @@ same-length : tie.Need-same-length
 same-length c = search needs
 
 returns : tie.Need-returns
-unfolding fewest
+unfolding fewest vlq
 returns c = rw (in-one (c .before .before .before .before .before .before .args .number % 268435456) (omega arith)) (c .before .before .put-byte .ensures)
 
 add-put-byte : tie.Need-add-put-byte
@@ -40,7 +41,7 @@ same-length-2 : tie.Need-same-length-2
 same-length-2 c = search needs
 
 returns-2 : tie.Need-returns-2
-unfolding fewest
+unfolding fewest vlq
 returns-2 c =
     rw (in-two (c .before .before .before .before .before .before .before .before .before .before .before .args .number % 268435456) (omega arith) (omega arith))
     (then (c .before .before .before .before .before .before .put-byte2 .ensures) (c .before .before .put-byte3 .ensures))
@@ -73,7 +74,7 @@ same-length-3 : tie.Need-same-length-3
 same-length-3 c = search needs
 
 returns-3 : tie.Need-returns-3
-unfolding fewest
+unfolding fewest vlq
 returns-3 c =
     rw (in-three (c .before .before .before .before .before .before .before .before .before .before .before .before .before .before .before .before .args .number % 268435456) (omega arith) (omega arith))
     (then (c .before .before .before .before .before .before .before .before .before .before .put-byte4 .ensures) (then (c .before .before .before .before .before .before .put-byte5 .ensures) (c .before .before .put-byte6 .ensures)))
@@ -115,9 +116,9 @@ same-length-4 : tie.Need-same-length-4
 same-length-4 c = search needs
 
 returns-4 : tie.Need-returns-4
-unfolding fewest
+unfolding fewest vlq
 returns-4 c =
-    rw (in-four (c .before .before .before .before .before .before .before .before .before .before .before .before .before .before .before .before .before .before .before .before .args .number % 268435456) (omega arith) (omega arith))
+    rw (in-four (c .before .before .before .before .before .before .before .before .before .before .before .before .before .before .before .before .before .before .before .before .args .number % 268435456) (omega arith))
     (then (c .before .before .before .before .before .before .before .before .before .before .before .before .before .before .put-byte7 .ensures) (then (c .before .before .before .before .before .before .before .before .before .before .put-byte8 .ensures) (then (c .before .before .before .before .before .before .put-byte9 .ensures) (c .before .before .put-byte10 .ensures))))
 
 pub put-number-spec : {M : Type 1} → statement M
