@@ -1,4 +1,4 @@
--- Every refusal has a number that is not 0, and number and place within bounds: of events the numbers end at 13.
+-- Every refusal has a number that is neither 0 nor 4, and number and place within bounds: of events the numbers end at 13.
 use mathlib.Core.Path.{_≡_, refl}
 use Prim.Native.Nat.{ℕ, zero, suc, _+_, _-_, _*_, _≤_}
 use mathlib.Core.Bool.{Bool, true, false}
@@ -9,17 +9,21 @@ use Rattle.event.specs.Choice.{pick}
 use Rattle.event.specs.Outcome.{Outcome, ok, refused, andThen, check, placed}
 use Rattle.event.specs.Reader.{readMore, readVlq, readData, readNumber, dataByte, oneData, twoData, channelData, readExclusive, metaData, readMetaOf, readMeta, readFrame, readEvent}
 
--- what a refusal keeps to: its number is 1 to top, its place is at most m
+-- a number that a refusal may have: 1 to top, and never 4, which "falls away"
+abbrev pub Given : ℕ → ℕ → Type 0
+Given top n = (1 ≤ n) × (n ≤ top) × (n ≡ 4 → ⊥)
+
+-- what a refusal keeps to: its number is one of these, its place is at most m
 abbrev pub Fair : {A : Type 0} → ℕ → ℕ → Outcome A → Type 0
 Fair top m (ok a r) = Unit {0}
-Fair top m (refused n p) = ((1 ≤ n) × (n ≤ top)) × (p ≤ m)
+Fair top m (refused n p) = Given top n × (p ≤ m)
 
 pub then-fair : {A B : Type 0} (top m : ℕ) (x : Outcome A) (f : A → List ℕ → Outcome B) → Fair top m x → ((a : A) (r : List ℕ) → x ≡ ok a r → Fair top m (f a r)) → Fair top m (andThen x f)
 unfolding andThen
 then-fair top m (ok a r) f h k = k a r refl
 then-fair top m (refused n p) f h k = h
 
-pub check-fair : {A : Type 0} (top m : ℕ) (t : Bool) (n p : ℕ) (x : Outcome A) → ((1 ≤ n) × (n ≤ top)) × (p ≤ m) → (t ≡ true → Fair top m x) → Fair top m (check t n p x)
+pub check-fair : {A : Type 0} (top m : ℕ) (t : Bool) (n p : ℕ) (x : Outcome A) → Given top n × (p ≤ m) → (t ≡ true → Fair top m x) → Fair top m (check t n p x)
 unfolding check
 check-fair top m true n p x h k = k refl
 check-fair top m false n p x h k = h

@@ -26,7 +26,7 @@ use Rattle.event_write.specs.Head.{headBytes, dataOf}
 use Rattle.event_write.proofs.HeadLaws.{event-bytes}
 use Rattle.event_write.proofs.WriteLaws.{Remains, all-remains, go-on}
 use Rattle.smf.specs.Piece.{LawfulEvents}
-use Rattle.smf.specs.Spelling.{PieceSpelling, PermittedEvents}
+use Rattle.smf.specs.Spelling.{PermittedEvents}
 use Rattle.smf.specs.Layout.{layEvents, layTracks}
 use Rattle.smf.specs.Manner.{spellEvents}
 use Rattle.smf.proofs.CameLaws.{event-came}
@@ -165,16 +165,14 @@ pub whole-small : (f : List ℕ) (n first : ℕ) → Bytes f → Readable (R f n
 whole-small f n first bs good =
     let (r, laid) = tracks-laid f n first bs good in
     let ts : List (List Event) = valueOr [] (R f n first) in
-    let s : PieceSpelling = record { tracks = laid .spelling } in
-    let permitted = fold-permitted ts s (laid .lawful) (laid .permitted) in
+    let permitted = fold-permitted ts (laid .spelling) (laid .lawful) (laid .permitted) in
     omega
-    (arith, manner-events short 0 noStatus (foldedTrack ts) (map wide (foldedTrack ts)) permitted, lay-total 0 (foldedTrack ts), fold-total ts s (laid .lawful) (laid .permitted), ap length (laid .bytes), length-append (layTracks ts (laid .spelling)) r)
+    (arith, manner-events short 0 noStatus (foldedTrack ts) (map wide (foldedTrack ts)) permitted, lay-total 0 (foldedTrack ts), fold-total ts (laid .spelling) (laid .lawful) (laid .permitted), ap length (laid .bytes), length-append (layTracks ts (laid .spelling)) r)
 
 pub going-first : (f : List ℕ) (n first : ℕ) (old : List ℕ) (from : ℕ) (ps ts ss ps₀ ts₀ ss₀ : List ℕ) → Bytes f → Readable (R f n first) → Rows f n (placedFrom f n first) ps ts ss ps₀ ts₀ ss₀
     → Going f n (placedFrom f n first) old from (Whole f n first) old from 0 0 ps ts ss ps₀ ts₀ ss₀
 going-first f n first old from ps ts ss ps₀ ts₀ ss₀ bs good rows =
     let (r, laid) = tracks-laid f n first bs good in
-    let s : PieceSpelling = record { tracks = laid .spelling } in
     let same : tracksOf (placedFrom f n first) ≡ valueOr [] (R f n first) = tracks-placed f n first bs good in
     let many : length (tracksOf (placedFrom f n first)) ≡ length (placedFrom f n first) = length-map (placedFrom f n first) eventsOf in
     let count : length (tracksOf (placedFrom f n first)) ≡ n = ap length same ∙ laid .count in
@@ -187,7 +185,7 @@ going-first f n first old from ps ts ss ps₀ ts₀ ss₀ bs good rows =
       lawful = subst (λ z. LawfulEvents 0 (foldedTrack z)) (sym same) (fold-lawful (valueOr [] (R f n first)) (laid .lawful));
       permitted =
           subst (λ z. PermittedEvents 0 0 (foldedTrack z) (map wide (foldedTrack z))) (sym same)
-          (fold-permitted (valueOr [] (R f n first)) s (laid .lawful) (laid .permitted));
+          (fold-permitted (valueOr [] (R f n first)) (laid .spelling) (laid .lawful) (laid .permitted));
     }
 
 -- ---- it goes on

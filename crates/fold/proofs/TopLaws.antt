@@ -11,7 +11,7 @@ use Rattle.event.specs.Bytes.{Bytes}
 use Rattle.event.specs.Manner.{short}
 use Rattle.event.specs.Outcome.{Outcome, ok, refused, check, Readable, valueOr}
 use Rattle.smf.specs.Piece.{Piece}
-use Rattle.smf.specs.Layout.{layHeader, layTracks, layPiece}
+use Rattle.smf.specs.Layout.{layHeader, layChunks, layTracks, layPiece}
 use Rattle.smf.specs.Manner.{spellTracks, spelling, fileOf}
 use Rattle.smf.specs.Reader.{readHeader, readFile}
 use Rattle.smf.specs.Step.{headerStep}
@@ -134,12 +134,13 @@ module _ (f : List ℕ) (bs : Bytes f) {v : Answer} (judged : v ≡ verdict (rea
               found (through g) = looked ∙ g Piece Z
 
           file-is : fileIn (d .0) (foldedTrack (valueOr [] (R f b n))) ≡ fileOf short (foldedPiece P)
-          unfolding fileOf layPiece spelling foldedPiece layTracks spellTracks valueOr
+          unfolding fileOf layPiece spelling foldedPiece layTracks layChunks spellTracks valueOr
           file-is =
               let same = headed f a b d n bs head there in
               let tracks : valueOr [] (R f b n) ≡ P .tracks = ap (valueOr []) (there .tracks) in
-              ap₂ (λ x y. layHeader 0 1 x (trackIn short (foldedTrack y))) (sym (same .division)) tracks
-              ∙ ap (layHeader 0 1 (P .division)) (sym (append-nil (trackIn short (foldedTrack (P .tracks)))))
+              let track = trackIn short (foldedTrack (P .tracks)) in
+              ap₂ (λ x y. layHeader 0 1 x [] (trackIn short (foldedTrack y))) (sym (same .division)) tracks
+              ∙ ap (layHeader 0 1 (P .division) []) (sym (append-nil (track ++ []) ∙ append-nil track))
 
           pub promise-kept : (w : Answer) → w ≡ lookAnswer (severalFree b (placedFrom f b n) fine) → w .number ≡ 0 → (new ps′ ts′ ss′ : List ℕ)
               → r ≡ writeAnswer (length old) (length (fileIn (d .0) (foldedTrack (valueOr [] (R f b n)))))

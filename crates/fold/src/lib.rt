@@ -12,11 +12,7 @@ mod merge; // merge.rt: the events of all tracks as those of one
 mod write; // write.rt: the folded file
 mod look; // look.rt: Channel_prefix and MIDI_port
 
-// The header's tag MThd, a track's tag MTrk, the longest file, and "Up to 64 tracks".
-const HEADER_TAG: u32 = 0x4D546864;
-
-const TRACK_TAG: u32 = 0x4D54726B;
-
+// The longest file, and "Up to 64 tracks".
 const FILE_LIMIT: usize = 1048576;
 
 const MOST_TRACKS: u32 = 64;

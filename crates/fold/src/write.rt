@@ -9,12 +9,12 @@ ghost use Rattle.smf_write.specs.Tidy.{trackIn};
 ghost use Rattle.fold_piece.specs.FoldAnswer.{placeShown, timeShown, statusShown};
 ghost use Rattle.fold.specs.Code.Row.{TracksRead, trackOf, fileIn, RowsFor, showing};
 use super::FILE_LIMIT;
-use super::HEADER_TAG;
-use super::TRACK_TAG;
 use super::merge::merge;
 use event_write::bytes::put_four;
 use event_write::bytes::put_two;
 use smf::Answer;
+use smf::HEADER_TAG;
+use smf::TRACK_TAG;
 
 // The tag, the length and the events of the one track. The length is known when the events are written, and
 // is then written over the zero that stood for it.

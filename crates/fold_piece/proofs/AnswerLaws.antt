@@ -14,7 +14,7 @@ use Rattle.event.specs.Manner.{short}
 use Rattle.event.specs.Outcome.{Outcome, ok, refused, andThen, check, Readable}
 use Rattle.event.proofs.ChoiceLaws.{by-test}
 use Rattle.event.proofs.OutcomeLaws.{not-ok, ok-same, andThen-ok, andThen-refused, check-ok, check-refused}
-use Rattle.event.proofs.RefusalLaws.{Fair}
+use Rattle.event.proofs.RefusalLaws.{Given, Fair}
 use Rattle.smf.specs.Piece.{Piece, LawfulPiece}
 use Rattle.smf.specs.Answer.{verdict}
 use Rattle.smf.specs.Manner.{fileOf}
@@ -68,7 +68,7 @@ several-33 n ts p r k q e = cases (free-several n ts)
     cases (through h) = not-ok (sym e ∙ h Piece (ok p r))
 
 -- the numbers: those of reading, or those of folding
-outcome-number : (rows : ℕ) (f : List ℕ) (k q : ℕ) → Bytes f → foldOutcome rows f ≡ refused k q → ((1 ≤ k) × (k ≤ 13)) ⊎ ((31 ≤ k) × (k ≤ 37))
+outcome-number : (rows : ℕ) (f : List ℕ) (k q : ℕ) → Bytes f → foldOutcome rows f ≡ refused k q → Given 13 k ⊎ ((31 ≤ k) × (k ≤ 37))
 unfolding foldOutcome foldTested
 outcome-number rows f k q bs e =
     andThen-refused (readFile f) (foldTested rows (placedFile f)) k q e (λ h. let fair = subst (Fair 13 (length f)) h (file-fair f bs) in inl (fair .0))
@@ -102,10 +102,10 @@ unfolding writeAnswer pick
 written-number room n =
     by-test (leb n fileLimit) (λ a. by-test (leb n room) (λ b. rw (a, b) (inl refl)) (λ b. rw (a, b) (inr (inl refl)))) (λ a. rw a (inr (inr refl)))
 
-not-shown : (k : ℕ) → ((1 ≤ k) × (k ≤ 13)) ⊎ ((31 ≤ k) × (k ≤ 37)) → Shows k → ⊥
+not-shown : (k : ℕ) → Given 13 k ⊎ ((31 ≤ k) × (k ≤ 37)) → Shows k → ⊥
 not-shown k h s = ⊎-elim (λ a. omega (arith, a, outside h)) (λ b. ⊎-elim (λ a. omega (arith, a, outside h)) (λ a. omega (arith, a, outside h)) b) s
   where
-    outside : ((1 ≤ k) × (k ≤ 13)) ⊎ ((31 ≤ k) × (k ≤ 37)) → (1 ≤ k) × (k ≡ 14 → ⊥) × (k ≡ 29 → ⊥)
+    outside : Given 13 k ⊎ ((31 ≤ k) × (k ≤ 37)) → (1 ≤ k) × (k ≡ 14 → ⊥) × (k ≡ 29 → ⊥)
     outside x = ⊎-elim (λ a. (a .0, λ z. omega (arith, a, z), λ z. omega (arith, a, z))) (λ a. (omega (arith, a), λ z. omega (arith, a, z), λ z. omega (arith, a, z))) x
 
 answer-cases {ℓ} : {X : Type ℓ} (room rows : ℕ) (f : List ℕ) → (Shows (foldAnswer room rows f .number) → (p : Piece) (r : List ℕ) → foldOutcome rows f ≡ ok p r → X)
@@ -123,10 +123,11 @@ rows-folded room rows f g old bs =
     answer-cases room rows f (λ s p r e. record { shown = λ _. rw e refl; stay = λ n. absurd (n s) })
     (λ q e. record { shown = λ s. absurd (not-shown (foldAnswer room rows f .number) (outcome-number rows f _ q bs e) s); stay = λ _. rw e refl })
 
-pub number-27 : (room rows : ℕ) (f : List ℕ) → Bytes f → foldAnswer room rows f .number ≡ 27 → ⊥
-number-27 room rows f bs n =
-    answer-cases room rows f (λ s p r e. ⊎-elim (λ a. omega (arith, a, n)) (λ b. ⊎-elim (λ a. omega (arith, a, n)) (λ a. omega (arith, a, n)) b) s)
-    (λ q e. ⊎-elim (λ a. omega (arith, a, n)) (λ a. omega (arith, a, n)) (outcome-number rows f _ q bs e))
+-- "4 falls away", and "27 has no place here"
+pub number-none : (room rows : ℕ) (f : List ℕ) → Bytes f → (foldAnswer room rows f .number ≡ 4 → ⊥) × (foldAnswer room rows f .number ≡ 27 → ⊥)
+number-none room rows f bs =
+    answer-cases room rows f (λ s p r e. ⊎-elim (λ a. omega (arith, a)) (λ b. ⊎-elim (λ a. omega (arith, a)) (λ a. omega (arith, a)) b) s)
+    (λ q e. ⊎-elim (λ a. omega (arith, a)) (λ a. omega (arith, a)) (outcome-number rows f _ q bs e))
 
 pub number-37 : (room : ℕ) (f : List ℕ) → Bytes f → foldAnswer room mostTracks f .number ≡ 37 → ⊥
 number-37 room f bs n =

@@ -12,12 +12,12 @@ use Rattle.event.specs.Layout.{layChannel, layFrame, layEvent}
 use Rattle.event.specs.Outcome.{andThen, check, placed}
 use Rattle.event.specs.Reader.{readMore, readVlq, readData, readNumber, dataByte, oneData, twoData, oneByte, channelData, isChannel, lengthOk, valueOk, metaData, readMetaOf, readMeta, readFrame, kind2, metaOf, kindIn, readEvent}
 use Rattle.event.specs.Manner.{statusIn, restIn, spellEvent}
-use Rattle.smf.specs.Layout.{layEvents, layTrack, layTracks, layDivision, layHeader, layPiece}
+use Rattle.smf.specs.Layout.{layChunk, layChunks, layEvents, layTrack, layTracks, layDivision, layHeader, layPiece}
 use Rattle.smf.specs.Manner.{spellEvents, spellTracks, spelling, fileOf}
 use Rattle.smf.specs.Piece.{tracksFit}
 use Rattle.smf.specs.Step.{lastTime}
 use Rattle.smf.specs.Listing.{endTimes}
-use Rattle.smf.specs.Reader.{ended, goOn, readEvents, readAll, readChunk, readTrack, readTracks, countOk, divisionOk, readHeader, noMore, readPiece, readFile}
+use Rattle.smf.specs.Reader.{ended, goOn, readEvents, readAll, readHead, findTrack, readChunk, readTrack, readTracks, countOk, divisionOk, readHeader, passOver, readBehind, readPiece, readFile}
 use Rattle.smf.specs.Answer.{success, refusal, roomNeeded}
 use Rattle.smf.specs.Walk.{behind, walkOn, stepped, walked, walkedBody, placedOf}
 use Rattle.smf.specs.PlacedFile.{foundTrack, placedTracks, placedAfter, placedFile}
@@ -38,7 +38,7 @@ pub record WorkedFold : Type 0 where
   pub format-2 : foldAnswer 37 2 formatTwo ≡ refusal 32 8
 
 pub worked-fold : WorkedFold
-unfolding readFile readPiece readTracks readTrack readChunk readHeader readNumber readData number horner countOk tracksFit divisionOk noMore readAll readEvents readEvent goOn ended isEnd andThen check placed pick readVlq readMore readFrame channelData isChannel oneData twoData dataByte readMeta readMetaOf metaData oneByte after kindOf lengthOk valueOk kindIn kind2 metaOf frame bigEndian bytesOnto fileOf spelling spellTracks spellEvents spellEvent restIn statusIn least layPiece layHeader layDivision layTracks layTrack layEvents layEvent layFrame layChannel vlq lastTime endTimes behind walkOn stepped walked walkedBody placedOf foundTrack placedTracks placedAfter placedFile writeAnswer writeLeaves shortAnswer shortLeaves others joined insert byTime greatest foldedTrack foldedPiece isPrefixOrPort trackFree tracksFree severalFree foldTested foldOutcome lastPlaced endsShown rowsLeave
+unfolding readFile readPiece readTracks readTrack readChunk findTrack readHead readHeader readNumber readData number horner countOk tracksFit divisionOk readBehind passOver readAll readEvents readEvent goOn ended isEnd andThen check placed pick readVlq readMore readFrame channelData isChannel oneData twoData dataByte readMeta readMetaOf metaData oneByte after kindOf lengthOk valueOk kindIn kind2 metaOf frame bigEndian bytesOnto fileOf spelling spellTracks spellEvents spellEvent restIn statusIn least layPiece layHeader layDivision layTracks layTrack layChunks layChunk layEvents layEvent layFrame layChannel vlq lastTime endTimes behind walkOn stepped walked walkedBody placedOf foundTrack placedTracks placedAfter placedFile writeAnswer writeLeaves shortAnswer shortLeaves others joined insert byTime greatest foldedTrack foldedPiece isPrefixOrPort trackFree tracksFree severalFree foldTested foldOutcome lastPlaced endsShown rowsLeave
 worked-fold =
     record {
       answer = refl;

@@ -6,7 +6,6 @@ use lib.ListN.{length}
 use Rattle.event.specs.Bytes.{Bytes}
 use Rattle.event.specs.Event.{Event}
 use Rattle.smf.specs.Piece.{Piece, LawfulPiece}
-use Rattle.smf.specs.Spelling.{PermittedPiece}
 use Rattle.smf.specs.Layout.{LaidOut}
 use Rattle.smf.specs.Reader.{fileLimit}
 use Rattle.smf.proofs.DemandLaws.{laid-read}
@@ -16,7 +15,7 @@ use Rattle.fold_piece.proofs.OrderLaws.{only-one, perm-byTime}
 use Rattle.fold_piece.proofs.TrackLaws.{folded-rising, folded-at, fold-steps}
 use Rattle.fold_piece.proofs.WideLaws.{tracks-steps}
 use Rattle.fold_piece.proofs.FoldLaws.{fold-zero, fold-single, fold-piece-lawful, fold-laid, fold-read}
-use Rattle.fold_piece.proofs.AnswerLaws.{zero-tidies, rows-folded, number-27, number-37, outcome-folds, outcome-only}
+use Rattle.fold_piece.proofs.AnswerLaws.{zero-tidies, rows-folded, number-none, number-37, outcome-folds, outcome-only}
 use Rattle.fold_piece.proofs.RowsLaws.{rows-of}
 
 events-folded : (ts : List (List Event)) → EventsFolded ts
@@ -35,7 +34,7 @@ piece-folded p l =
     record { lawful = lawful; zero = fold-zero p l; one = fold-single p l; again = fold-zero (foldedPiece p) lawful refl }
 
 file-folded : (f : List ℕ) (p : Piece) → Bytes f → LaidOut f p → length f ≤ fileLimit → FileFolded f p
-unfolding foldedPiece PermittedPiece
+unfolding foldedPiece
 file-folded f p bs laid h =
     let law = laid .has .lawful in
     let lawful = fold-piece-lawful p law in
@@ -44,7 +43,7 @@ file-folded f p bs laid h =
     record {
       folds = outcome-folds f p bs e same;
       only = outcome-only f p bs e same;
-      steps = fold-steps (p .tracks) (law .tracks) (tracks-steps (p .tracks) (laid .spelling .tracks) (laid .has .permitted));
+      steps = fold-steps (p .tracks) (law .tracks) (tracks-steps (p .tracks) (laid .spelling .tracks) (laid .has .permitted .tracks));
       laid = λ m. fold-laid m f p laid h;
       read = λ m g. fold-read m f p laid h g;
       again =
@@ -62,6 +61,6 @@ all-claims =
       file = file-folded;
       rows = rows-of;
       lent = rows-folded;
-      never-27 = number-27;
+      never-27 = λ room rows f bs. number-none room rows f bs .1;
       never-37 = number-37;
     }

@@ -1,9 +1,9 @@
 -- The folded piece: lawful, with no step too long, and with a layout wherever the old one has a file of permitted length.
 use mathlib.Core.Path.{_≡_, refl, sym, ap, _∙_}
 use Prim.Native.Nat.{ℕ, _+_, _*_, _≤_}
-use mathlib.Core.List.{List, [], _∷_, map}
+use mathlib.Core.List.{List, [], _∷_, _++_, map}
 use native.Mathlib.Omega.{arith}
-use lib.ListN.{length}
+use lib.ListN.{length, length-append}
 use Rattle.event.specs.Event.{Event}
 use Rattle.event.specs.Frame.{frame, noStatus}
 use Rattle.event.specs.Manner.{Manner, short}
@@ -11,8 +11,9 @@ use Rattle.event.specs.Number.{vlq}
 use Rattle.event.specs.Layout.{layFrame}
 use Rattle.event.specs.Outcome.{ok}
 use Rattle.smf.specs.Piece.{Piece, LawfulPiece, LawfulTracks}
-use Rattle.smf.specs.Spelling.{PieceSpelling, PermittedPiece, PermittedTracks, PermittedEvents}
-use Rattle.smf.specs.Layout.{layPiece, layTracks, ShortTracks, LaidOut}
+use Rattle.smf.specs.Chunk.{AllPassed}
+use Rattle.smf.specs.Spelling.{TrackSpelling, PieceSpelling, PermittedTracks, PermittedEvents}
+use Rattle.smf.specs.Layout.{layChunks, layPiece, layTracks, ShortTracks, LaidOut}
 use Rattle.smf.specs.Listing.{endTimes}
 use Rattle.smf.specs.Manner.{spellTracks, spelling, fileOf}
 use Rattle.smf.specs.Reader.{fileLimit, readFile}
@@ -55,37 +56,39 @@ fold-piece-lawful p l =
 
 -- ---- a layout
 
-module _ (ts : List (List Event)) (s : PieceSpelling) (l : LawfulTracks ts) (p : PermittedTracks ts (s .tracks)) where
+module _ (ts : List (List Event)) (ss : List TrackSpelling) (l : LawfulTracks ts) (p : PermittedTracks ts ss) where
   pub fold-permitted : PermittedEvents 0 noStatus (foldedTrack ts) (map wide (foldedTrack ts))
   unfolding foldedTrack All DataFit frame
   fold-permitted =
-      wide-permitted 0 noStatus (foldedTrack ts) (fold-steps ts l (tracks-steps ts (s .tracks) p))
-      (all-append Fit (byTime (joined ts)) (endAt (greatest (endTimes ts)) ∷ []) (all-byTime Fit (joined ts) (joined-fit ts (s .tracks) p)) (omega arith, tt))
+      wide-permitted 0 noStatus (foldedTrack ts) (fold-steps ts l (tracks-steps ts ss p))
+      (all-append Fit (byTime (joined ts)) (endAt (greatest (endTimes ts)) ∷ []) (all-byTime Fit (joined ts) (joined-fit ts ss p)) (omega arith, tt))
 
-  pub fold-total : total (foldedTrack ts) ≤ 3 * length (layTracks ts (s .tracks)) + 10
+  pub fold-total : total (foldedTrack ts) ≤ 3 * length (layTracks ts ss) + 10
   unfolding foldedTrack total layFrame frame wideRest vlq
   fold-total =
-      omega (arith, total-append (byTime (joined ts)) (endAt (greatest (endTimes ts)) ∷ []), total-byTime (joined ts), joined-total ts (s .tracks) p)
+      omega (arith, total-append (byTime (joined ts)) (endAt (greatest (endTimes ts)) ∷ []), total-byTime (joined ts), joined-total ts ss p)
 
 -- in either manner the folded piece of a file of permitted length has a layout: no step too long (27), no track too long
 pub fold-laid : (m : Manner) (f : List ℕ) (p : Piece) → LaidOut f p → length f ≤ fileLimit → LaidOut (fileOf m (foldedPiece p)) (foldedPiece p)
-unfolding fileOf spelling spellTracks foldedPiece PermittedPiece PermittedTracks ShortTracks layPiece
+unfolding fileOf spelling spellTracks foldedPiece AllPassed PermittedTracks ShortTracks layPiece
 fold-laid m f p laid h =
     let law = laid .has .lawful in
     let ts = p .tracks in
     let s = laid .spelling in
-    let permitted = fold-permitted ts s (law .tracks) (laid .has .permitted) in
-    let wides : PieceSpelling = record { tracks = map wide (foldedTrack ts) ∷ [] } in
-    let size = header-size (p .format) (length ts) (p .division) (layTracks ts (s .tracks)) in
+    let given = laid .has .permitted .tracks in
+    let permitted = fold-permitted ts (s .tracks) (law .tracks) given in
+    let wides : PieceSpelling = record { extra = []; tracks = record { before = []; events = map wide (foldedTrack ts) } ∷ []; behind = [] } in
+    let size = header-size (p .format) (length ts) (p .division) (s .extra) (layTracks ts (s .tracks) ++ layChunks (s .behind)) in
+    let parts = length-append (layTracks ts (s .tracks)) (layChunks (s .behind)) in
     record {
       spelling = spelling m (foldedPiece p);
       has =
           record {
             lawful = fold-piece-lawful p law;
-            permitted = manner-permitted m (foldedPiece p) wides (permitted, tt);
+            permitted = manner-permitted m (foldedPiece p) wides (record { tracks = (permitted, tt, tt); extra = tt; header = omega arith; behind = tt });
             short = (
               omega
-                  (arith, manner-events m 0 noStatus (foldedTrack ts) (map wide (foldedTrack ts)) permitted, lay-total 0 (foldedTrack ts), fold-total ts s (law .tracks) (laid .has .permitted), ap length (laid .bytes), size, h),
+                  (arith, manner-events m 0 noStatus (foldedTrack ts) (map wide (foldedTrack ts)) permitted, lay-total 0 (foldedTrack ts), fold-total ts (s .tracks) (law .tracks) given, ap length (laid .bytes), size, parts, h),
               tt,
             );
           };

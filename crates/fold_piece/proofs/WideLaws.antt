@@ -15,8 +15,8 @@ use Rattle.event.specs.Spelling.{Rest, leftOut, lengthIn, Spelling, Spelled, Pe
 use Rattle.event.specs.Layout.{layChannel, layFrame, layEvent}
 use Rattle.event.proofs.ChoiceLaws.{by-test}
 use Rattle.event.proofs.NumberLaws.{limit-most, vlq-size}
-use Rattle.smf.specs.Spelling.{PermittedEvents, PermittedTracks}
-use Rattle.smf.specs.Layout.{layEvents, layTrack, layTracks}
+use Rattle.smf.specs.Spelling.{TrackSpelling, PermittedEvents, PermittedTracks}
+use Rattle.smf.specs.Layout.{layChunk, layChunks, layEvents, layTrack, layTracks}
 use Rattle.fold_piece.specs.Fold.{others, joined, insert, byTime}
 use Rattle.fold_piece.specs.Order.{Steps}
 use Rattle.fold_piece.proofs.OrderLaws.{All, all-append}
@@ -75,17 +75,17 @@ permitted-fit prev force (e ∷ es) (s ∷ ss) p =
     let rest = permitted-fit (e .time) (after (frame (e .kind))) es ss (p .1) in
     by-test (isEnd (e .kind)) (λ b. rw b rest) (λ b. rw b (spelled-fit force (frame (e .kind)) (s .rest) (p .0 .rest), rest))
 
-pub tracks-steps : (ts : List (List Event)) (ss : List (List Spelling)) → PermittedTracks ts ss → StepsTracks ts
+pub tracks-steps : (ts : List (List Event)) (ss : List TrackSpelling) → PermittedTracks ts ss → StepsTracks ts
 unfolding PermittedTracks StepsTracks
 tracks-steps [] ss p = tt
 tracks-steps (t ∷ ts) [] p = absurd p
-tracks-steps (t ∷ ts) (s ∷ ss) p = (permitted-steps 0 noStatus t s (p .0), tracks-steps ts ss (p .1))
+tracks-steps (t ∷ ts) (s ∷ ss) p = (permitted-steps 0 noStatus t (s .events) (p .0), tracks-steps ts ss (p .2))
 
-pub joined-fit : (ts : List (List Event)) (ss : List (List Spelling)) → PermittedTracks ts ss → All Fit (joined ts)
+pub joined-fit : (ts : List (List Event)) (ss : List TrackSpelling) → PermittedTracks ts ss → All Fit (joined ts)
 unfolding PermittedTracks joined All
 joined-fit [] ss p = tt
 joined-fit (t ∷ ts) [] p = absurd p
-joined-fit (t ∷ ts) (s ∷ ss) p = all-append Fit (others t) (joined ts) (permitted-fit 0 noStatus t s (p .0)) (joined-fit ts ss (p .1))
+joined-fit (t ∷ ts) (s ∷ ss) p = all-append Fit (others t) (joined ts) (permitted-fit 0 noStatus t (s .events) (p .0)) (joined-fit ts ss (p .2))
 
 -- ---- the wide spelling is permitted wherever steps and data fit
 
@@ -170,13 +170,15 @@ others-total prev force (e ∷ es) (s ∷ ss) p =
     by-test (isEnd (e .kind)) (λ b. rw b (omega (arith, rest, size))) (λ b. rw b (omega (arith, rest, one, size)))
 
 track-events : (es : List Event) (ss : List Spelling) → length (layEvents 0 es ss) ≤ length (layTrack es ss)
-unfolding layTrack
+unfolding layTrack layChunk
 track-events es ss = simp length-append (omega arith)
 
-pub joined-total : (ts : List (List Event)) (ss : List (List Spelling)) → PermittedTracks ts ss → total (joined ts) ≤ 3 * length (layTracks ts ss)
+pub joined-total : (ts : List (List Event)) (ss : List TrackSpelling) → PermittedTracks ts ss → total (joined ts) ≤ 3 * length (layTracks ts ss)
 unfolding PermittedTracks layTracks joined total
 joined-total [] ss p = omega arith
 joined-total (t ∷ ts) [] p = absurd p
 joined-total (t ∷ ts) (s ∷ ss) p =
-    omega
-    (arith, total-append (others t) (joined ts), others-total 0 noStatus t s (p .0), joined-total ts ss (p .1), length-append (layTrack t s) (layTracks ts ss), track-events t s)
+    let one = others-total 0 noStatus t (s .events) (p .0) in
+    let rest = joined-total ts ss (p .2) in
+    let before = length-append (layChunks (s .before)) (layTrack t (s .events) ++ layTracks ts ss) in
+    omega (arith, total-append (others t) (joined ts), one, rest, before, length-append (layTrack t (s .events)) (layTracks ts ss), track-events t (s .events))

@@ -13,7 +13,7 @@ use Rattle.event.specs.Manner.{Manner}
 use Rattle.event.proofs.ChoiceLaws.{by-test}
 use Rattle.event.proofs.OutcomeLaws.{not-ok, ok-same}
 use Rattle.smf.specs.Piece.{Piece, LawfulPiece}
-use Rattle.smf.specs.Spelling.{PermittedPiece}
+use Rattle.smf.specs.Chunk.{AllPassed}
 use Rattle.smf.specs.Layout.{LaidOut}
 use Rattle.smf.specs.Manner.{spellTracks, spelling, fileOf}
 use Rattle.midicsv.specs.Result.{Result, good, bad}
@@ -121,14 +121,14 @@ module _ (s : List ℕ) (p : Piece) (r : List ℕ) (b : Bytes s) (h : length s �
   accepted-lawful = accepted .lawful
 
   pub accepted-laid : (m : Manner) → LaidOut (fileOf m p) p
-  unfolding fileOf spelling PermittedPiece
+  unfolding fileOf spelling AllPassed
   accepted-laid m =
       record {
         spelling = spelling m p;
         has =
             record {
               lawful = accepted .lawful;
-              permitted = tracks-permitted m (p .tracks) (accepted .tracks);
+              permitted = record { tracks = tracks-permitted m (p .tracks) (accepted .tracks); extra = tt; header = omega arith; behind = tt };
               short = tracks-short (p .tracks) (spellTracks m (p .tracks)) (omega (arith, accepted .size, lines-weight s));
             };
         bytes = refl;

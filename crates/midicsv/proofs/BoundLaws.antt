@@ -14,8 +14,8 @@ use Rattle.event.specs.Layout.{layChannel, layFrame, layEvent}
 use Rattle.event.proofs.NumberLaws.{vlq-size}
 use Rattle.event.proofs.BytesLaws.{length-bigEndian}
 use Rattle.smf.specs.Piece.{Piece, Ends, LawfulEvents, LawfulTracks, LawfulDivision, LawfulPiece}
-use Rattle.smf.specs.Spelling.{PermittedEvents, PermittedTracks, PermittedPiece}
-use Rattle.smf.specs.Layout.{layEvents, layTrack, layTracks, layHeader, layDivision, layPiece, LaidOut}
+use Rattle.smf.specs.Spelling.{TrackSpelling, PermittedEvents, PermittedTracks}
+use Rattle.smf.specs.Layout.{layChunk, layEvents, layTrack, layTracks, layHeader, layDivision, layPiece, LaidOut}
 use Rattle.midicsv.specs.Field.{decimal, digitsOf}
 use Rattle.midicsv.specs.Show.{Form, asText, asSheet}
 use Rattle.midicsv.specs.Table.{words, start-track, end-of-file, event, eventSpelled, spelled, eventShape, shape}
@@ -183,26 +183,26 @@ pub header-bound : (w : Form) (p : Piece) → LawfulPiece p → length (recordLi
 unfolding cost gapCost spelled shape columnsCost columnCost tailCost decimal digitsOf pick headerRecord InColumns InColumn InTail LawfulDivision
 header-bound w p l = omega (arith, record-cost w (headerRecord p) (omega arith) (omega (arith, l .format, l .some, l .few, l .division)) refl, gap-small w)
 
-pub tracks-bound : (w : Form) (n : ℕ) (ts : List (List Event)) (ss : List (List Spelling)) → n + length ts ≤ 65536 → LawfulTracks ts → PermittedTracks ts ss
+pub tracks-bound : (w : Form) (n : ℕ) (ts : List (List Event)) (ss : List TrackSpelling) → n + length ts ≤ 65536 → LawfulTracks ts → PermittedTracks ts ss
     → length (recordsText w (trackRecords n ts)) ≤ most w (length (layTracks ts ss))
-unfolding LawfulTracks PermittedTracks trackRecords recordsText layTracks layTrack
+unfolding LawfulTracks PermittedTracks trackRecords recordsText layTracks layTrack layChunk
 tracks-bound w n [] ss h l p = zero-le
 tracks-bound w n (t ∷ ts) [] h l p = absurd p
 tracks-bound w n (t ∷ ts) (s ∷ ss) h l p =
     let head = short-bound w (start-bound w n (omega arith)) in
-    let one = events-bound w n 0 noStatus t s (omega arith) (l .0) (p .0) in
-    let rest = tracks-bound w (suc n) ts ss (omega arith) (l .1) (p .1) in
-    let all = more-bound w {b = length (layTracks (t ∷ ts) (s ∷ ss))} (sum-bound w (7 + length (layEvents 0 t s)) (length (layTracks ts ss)) (sum-bound w 7 (length (layEvents 0 t s)) head one) rest) (simp (length-append, length-bigEndian) (omega arith)) in
+    let one = events-bound w n 0 noStatus t (s .events) (omega arith) (l .0) (p .0) in
+    let rest = tracks-bound w (suc n) ts ss (omega arith) (l .1) (p .2) in
+    let all = more-bound w {b = length (layTracks (t ∷ ts) (s ∷ ss))} (sum-bound w (7 + length (layEvents 0 t (s .events))) (length (layTracks ts ss)) (sum-bound w 7 (length (layEvents 0 t (s .events))) head one) rest) (simp (length-append, length-bigEndian) (omega arith)) in
     let size = length-append (recordLine w (mark start-track n)) (10 ∷ recordsText w (eventRecords n t ++ trackRecords (suc n) ts)) in
     omega (arith, all, size, texts-length w (eventRecords n t) (trackRecords (suc n) ts))
 
 -- of any layout of the piece, and so of any accepted file
 pub written-bound : (w : Form) (f : List ℕ) (p : Piece) → LaidOut f p → length (writtenAs w p) ≤ most w (length f)
-unfolding writtenAs pieceRecords recordsText layPiece layHeader layDivision PermittedPiece
+unfolding writtenAs pieceRecords recordsText layPiece layHeader layDivision
 written-bound w f p l =
     let good = l .has .lawful in
     let a = short-bound w (header-bound w p good) in
-    let b = tracks-bound w 1 (p .tracks) (l .spelling .tracks) (omega (arith, good .few)) (good .tracks) (l .has .permitted) in
+    let b = tracks-bound w 1 (p .tracks) (l .spelling .tracks) (omega (arith, good .few)) (good .tracks) (l .has .permitted .tracks) in
     let c = texts-length w (trackRecords 1 (p .tracks)) (mark end-of-file 0 ∷ []) in
     let d = last-length w (mark end-of-file 0) in
     let e : length (writtenAs w p) ≡ length (recordLine w (headerRecord p)) + suc (length (recordsText w (trackRecords 1 (p .tracks) ++ (mark end-of-file 0 ∷ [])))) = length-append (recordLine w (headerRecord p)) _ in

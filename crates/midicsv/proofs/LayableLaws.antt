@@ -14,7 +14,8 @@ use Rattle.event.proofs.NumberLaws.{limit-most}
 use Rattle.event.proofs.MannerLaws.{event-permitted}
 use Rattle.event_write.proofs.NumberLaws.{width-length}
 use Rattle.smf.specs.Piece.{Ends, LawfulEvents, LawfulTracks}
-use Rattle.smf.specs.Spelling.{PermittedEvents, PermittedTracks}
+use Rattle.smf.specs.Chunk.{AllPassed}
+use Rattle.smf.specs.Spelling.{TrackSpelling, PermittedEvents, PermittedTracks}
 use Rattle.smf.specs.Layout.{layEvents, ShortTracks}
 use Rattle.smf.specs.Manner.{spellEvents, spellTracks}
 
@@ -65,11 +66,11 @@ events-layable prev force (e ∷ es) [] l p = absurd p
 events-layable prev force (e ∷ es) (s ∷ ss) l p =
     (event-layable prev force e s (l .0) (p .0), ends-map (isEnd (e .kind)) es _ _ (l .1) (λ q. events-layable (e .time) (after (frame (e .kind))) es ss q (p .1)))
 
-pub tracks-layable : (ts : List (List Event)) (ss : List (List Spelling)) → LawfulTracks ts → PermittedTracks ts ss → LayableTracks ts
+pub tracks-layable : (ts : List (List Event)) (ss : List TrackSpelling) → LawfulTracks ts → PermittedTracks ts ss → LayableTracks ts
 unfolding LawfulTracks PermittedTracks LayableTracks
 tracks-layable [] ss l p = tt
 tracks-layable (t ∷ ts) [] l p = absurd p
-tracks-layable (t ∷ ts) (s ∷ ss) l p = (events-layable 0 noStatus t s (l .0) (p .0), tracks-layable ts ss (l .1) (p .1))
+tracks-layable (t ∷ ts) (s ∷ ss) l p = (events-layable 0 noStatus t (s .events) (l .0) (p .0), tracks-layable ts ss (l .1) (p .2))
 
 -- ---- they are lawful
 
@@ -119,9 +120,9 @@ events-permitted m prev force (e ∷ es) l = (
 )
 
 pub tracks-permitted : (m : Manner) (ts : List (List Event)) → LayableTracks ts → PermittedTracks ts (spellTracks m ts)
-unfolding LayableTracks PermittedTracks spellTracks
+unfolding LayableTracks PermittedTracks spellTracks AllPassed
 tracks-permitted m [] l = tt
-tracks-permitted m (t ∷ ts) l = (events-permitted m 0 noStatus t (l .0), tracks-permitted m ts (l .1))
+tracks-permitted m (t ∷ ts) l = (events-permitted m 0 noStatus t (l .0), tt, tracks-permitted m ts (l .1))
 
 -- ---- the most bytes that they take, in any spelling
 
@@ -155,8 +156,8 @@ unfoldable pub mostAll : List (List Event) → ℕ
 mostAll [] = 0
 mostAll (t ∷ ts) = 8 + most t + mostAll ts
 
-pub tracks-short : (ts : List (List Event)) (ss : List (List Spelling)) → mostAll ts ≤ 4294967295 → ShortTracks ts ss
+pub tracks-short : (ts : List (List Event)) (ss : List TrackSpelling) → mostAll ts ≤ 4294967295 → ShortTracks ts ss
 unfolding mostAll ShortTracks
 tracks-short [] ss h = tt
 tracks-short (t ∷ ts) [] h = tt
-tracks-short (t ∷ ts) (s ∷ ss) h = (omega (arith, events-most 0 t s), tracks-short ts ss (omega arith))
+tracks-short (t ∷ ts) (s ∷ ss) h = (omega (arith, events-most 0 t (s .events)), tracks-short ts ss (omega arith))

@@ -9,7 +9,7 @@ use lib.Dec.{eqb}
 use Rattle.event.specs.Choice.{pick}
 use Rattle.event.specs.Outcome.{Outcome, ok, refused}
 use Rattle.event.proofs.ChoiceLaws.{by-test}
-use Rattle.event.proofs.RefusalLaws.{Fair, then-fair, check-fair, pick-fair}
+use Rattle.event.proofs.RefusalLaws.{Given, Fair, then-fair, check-fair, pick-fair}
 use Rattle.smf.specs.Piece.{Piece}
 use Rattle.midicsv.specs.Field.{Field, num, minus, name, quoted}
 use Rattle.midicsv.specs.Table.{RecordName, header, start-track, end-of-file, event, Column, range, key, mode, freeType, Tail, none, oneText, sized}
@@ -25,7 +25,7 @@ use Rattle.midicsv.specs.PieceOfText.{Told, skipped, told, framed, tellL
 -- ---- fields
 
 -- "a field of none of the three shapes"
-none-fair : ((1 ≤ 22) × (22 ≤ 22)) × (0 ≤ 0)
+none-fair : Given 22 22 × (0 ≤ 0)
 none-fair = (omega arith, omega arith)
 
 push-fair : (c : ℕ) (m : Outcome (List ℕ)) → Fair 22 0 m → Fair 22 0 (push c m)

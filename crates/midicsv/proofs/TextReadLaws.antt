@@ -9,7 +9,6 @@ use Rattle.event.specs.Outcome.{Outcome, ok}
 use Rattle.event.specs.Event.{Event, isEnd}
 use Rattle.event.proofs.ChoiceLaws.{pick-false}
 use Rattle.smf.specs.Piece.{Piece, Ends, LawfulDivision, LawfulPiece}
-use Rattle.smf.specs.Spelling.{PermittedPiece}
 use Rattle.smf.specs.Layout.{LaidOut}
 use Rattle.smf.specs.Reader.{fileLimit}
 use Rattle.smf.proofs.FileLaws.{fit-yes}
@@ -144,9 +143,9 @@ piece-sound p l ls =
 -- ---- the text of a piece that has a layout
 
 pub written-read : (w : Form) (f : List ℕ) (p : Piece) → LaidOut f p → pieceOfText (writtenAs w p) ≡ ok p []
-unfolding pieceOfText pieceTold writtenAs PermittedPiece
+unfolding pieceOfText pieceTold writtenAs
 written-read w f p l =
-    let ls = tracks-layable (p .tracks) (l .spelling .tracks) (l .has .lawful .tracks) (l .has .permitted) in
+    let ls = tracks-layable (p .tracks) (l .spelling .tracks) (l .has .lawful .tracks) (l .has .permitted .tracks) in
     lines-run w (pieceRecords p) first 1 (piece-sound p (l .has .lawful) ls) ∙ piece-run p 1 ls
 
 -- "so 21 never meets our own text", nor our own sheet

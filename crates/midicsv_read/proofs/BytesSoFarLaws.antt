@@ -9,7 +9,8 @@ use Rattle.event.specs.Frame.{frame, after, noStatus}
 use Rattle.event.specs.Layout.{layEvent}
 use Rattle.event.specs.Manner.{Manner, spellEvent}
 use Rattle.smf.specs.Piece.{Division, Header}
-use Rattle.smf.specs.Layout.{trackTag, layEvents, layTrack, layTracks, layDivision, layHeader, layPiece}
+use Rattle.smf.specs.Chunk.{trackTag}
+use Rattle.smf.specs.Layout.{layChunk, layChunks, layEvents, layTrack, layTracks, layDivision, layHeader, layPiece}
 use Rattle.smf.specs.Manner.{spellEvents, spellTracks, spelling, fileOf}
 use Rattle.smf.specs.Step.{lastTime}
 use Rattle.midicsv.specs.Order.{between, inside, finished}
@@ -47,13 +48,13 @@ inside-more m h ts es prev p e =
 
 -- ---- one track more
 
-header-onto : (format count : ℕ) (d : Division) (xs ys : List ℕ) → layHeader format count d (xs ++ ys) ≡ layHeader format count d xs ++ ys
+header-onto : (format count : ℕ) (d : Division) (xs ys : List ℕ) → layHeader format count d [] (xs ++ ys) ≡ layHeader format count d [] xs ++ ys
 unfolding layHeader layDivision bigEndian bytesOnto
 header-onto format count d xs ys = refl
 
 tracks-more : (m : Manner) (ts : List (List Event)) (t : List Event)
     → tracksBytes m (ts ++ (t ∷ [])) ≡ tracksBytes m ts ++ (bigEndian 4 trackTag ++ (bigEndian 4 (length (eventsBytes m t)) ++ eventsBytes m t))
-unfolding tracksBytes eventsBytes layTracks spellTracks layTrack
+unfolding tracksBytes eventsBytes layTracks spellTracks layTrack layChunk layChunks
 tracks-more m [] t = append-nil _
 tracks-more m (u ∷ ts) t =
     ap (λ z. layTrack u (spellEvents m 0 noStatus u) ++ z) (tracks-more m ts t)
@@ -63,13 +64,13 @@ pub between-more : (m : Manner) (h : Header) (ts : List (List Event)) (t : List 
     → bytesOf m (between h (ts ++ (t ∷ []))) ≡ frontBytes m h ts ++ (bigEndian 4 (length (eventsBytes m t)) ++ eventsBytes m t)
 unfolding bytesOf betweenBytes frontBytes
 between-more m h ts t =
-    ap (layHeader (h .format) (h .count) (h .division)) (tracks-more m ts t)
+    ap (layHeader (h .format) (h .count) (h .division) []) (tracks-more m ts t)
     ∙ header-onto (h .format) (h .count) (h .division) (tracksBytes m ts) _
-    ∙ sym (append-assoc (layHeader (h .format) (h .count) (h .division) (tracksBytes m ts)) (bigEndian 4 trackTag) _)
+    ∙ sym (append-assoc (layHeader (h .format) (h .count) (h .division) [] (tracksBytes m ts)) (bigEndian 4 trackTag) _)
 
 -- ---- at the end
 
 pub finished-same : (m : Manner) (h : Header) (ts : List (List Event)) → length ts ≡ h .count
     → bytesOf m (finished (record { format = h .format; division = h .division; tracks = ts })) ≡ bytesOf m (between h ts)
-unfolding bytesOf betweenBytes tracksBytes fileOf layPiece spelling
-finished-same m h ts e = rw e
+unfolding bytesOf betweenBytes tracksBytes fileOf layPiece spelling layChunks
+finished-same m h ts e = rw (e, append-nil (layTracks ts (spellTracks m ts))) refl

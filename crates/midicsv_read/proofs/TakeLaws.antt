@@ -12,7 +12,8 @@ use Rattle.event.specs.Manner.{Manner}
 use Rattle.event.proofs.BytesLaws.{length-bigEndian}
 use Rattle.event_write.specs.Written.{Written}
 use Rattle.event_write.proofs.WriteLaws.{then}
-use Rattle.smf.specs.Layout.{trackTag, layEvents, layTracks, layHeader}
+use Rattle.smf.specs.Chunk.{trackTag}
+use Rattle.smf.specs.Layout.{layEvents, layTracks, layHeader}
 use Rattle.smf.specs.Step.{lastTime}
 use Rattle.midicsv.specs.Result.{test}
 use Rattle.midicsv.specs.Order.{State, first, between, inside, finished, takeHeader, takeStart, takeEnd, stepOn}
@@ -58,7 +59,7 @@ module _ (m : Manner) (st : Progress) (out : List ℕ) (row : Row) where
   header-unmarked new w (inside h ts es prev) old a = refl
   header-unmarked new w (finished p) old a = refl
 
-  pub header-moved : (new : List ℕ) (at : ℕ) → st .phase ≡ 0 → marked 0 ≡ true → row .b ≤ 65535 → Written out (st .at) (layHeader (row .a) (row .b) (divisionOf (row .c)) []) new at
+  pub header-moved : (new : List ℕ) (at : ℕ) → st .phase ≡ 0 → marked 0 ≡ true → row .b ≤ 65535 → Written out (st .at) (layHeader (row .a) (row .b) (divisionOf (row .c)) [] []) new at
       → Follows m st out (headerStep row) (Moved (record { phase = 1; count = row .b; tracks = 0; time = record { 0 = 0 }; force = 0; size = 0; at = at })) new
   unfolding stepOn takeHeader test bytesOf betweenBytes tracksBytes layTracks
   header-moved new at q k n w first old a = (

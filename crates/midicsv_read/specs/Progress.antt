@@ -10,7 +10,8 @@ use Rattle.event.specs.Manner.{Manner}
 use Rattle.event.specs.Outcome.{Outcome, ok, refused}
 use Rattle.event_write.specs.Written.{Written, overwrite}
 use Rattle.smf.specs.Piece.{Division, Piece, Header}
-use Rattle.smf.specs.Layout.{trackTag, layEvents, layTracks, layHeader}
+use Rattle.smf.specs.Chunk.{trackTag}
+use Rattle.smf.specs.Layout.{layEvents, layTracks, layHeader}
 use Rattle.smf.specs.Manner.{spellEvents, spellTracks, fileOf}
 use Rattle.smf.specs.Step.{lastTime}
 use Rattle.midicsv.specs.Table.{header, start-track, end-of-file}
@@ -44,7 +45,7 @@ tracksBytes m ts = layTracks ts (spellTracks m ts)
 
 -- the header and the tracks
 unfoldable pub betweenBytes : Manner → Header → List (List Event) → List ℕ
-betweenBytes m h ts = layHeader (h .format) (h .count) (h .division) (tracksBytes m ts)
+betweenBytes m h ts = layHeader (h .format) (h .count) (h .division) [] (tracksBytes m ts)
 
 -- all before the length of the present track
 unfoldable pub frontBytes : Manner → Header → List (List Event) → List ℕ

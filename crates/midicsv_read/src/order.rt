@@ -39,7 +39,7 @@ fn is_marked(row: Row, track: u32) -> bool
 // MThd, 6, and the numbers of a Header.
 fn put_header(out: &mut [u8], at: usize, format: u32, count: u32, pulses: u32) -> usize
     requires { ⌜ at < 2 ^ 44 ⌝ }
-    ensures { λ r. ⌜ Written (now (out .entry)) at (layHeader format count (divisionOf pulses) []) (now (out .exit)) r ⌝ }
+    ensures { λ r. ⌜ Written (now (out .entry)) at (layHeader format count (divisionOf pulses) [] []) (now (out .exit)) r ⌝ }
 {
     let a = put_four(out, at, 0x4D546864);
     let b = put_four(out, a, 6);

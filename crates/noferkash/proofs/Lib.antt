@@ -2,3 +2,4 @@ pub mod PackedLaws
 pub mod Demand2
 pub mod FoldCalls
 pub mod SheetCalls
+pub mod FourGone

@@ -8,7 +8,6 @@ use Rattle.event.specs.Outcome.{ok}
 use Rattle.event.proofs.ChoiceLaws.{by-test, pick-false}
 use Rattle.event.proofs.OutcomeLaws.{not-ok}
 use Rattle.smf.specs.Piece.{Piece, LawfulPiece}
-use Rattle.smf.specs.Spelling.{PermittedPiece}
 use Rattle.smf.specs.Layout.{LaidOut}
 use Rattle.midicsv.specs.Show.{asSheet}
 use Rattle.midicsv.specs.Record.{Record, recordFields, recordLine}
@@ -191,8 +190,7 @@ wrapped-found es (q ∷ qs) p a = header-sep q p (a .0)
 
 module _ (f : List ℕ) (p : Piece) (w : Way) (l : LaidOut f p) where
   layable : LayableTracks (p .tracks)
-  unfolding PermittedPiece
-  layable = tracks-layable (p .tracks) (l .spelling .tracks) (l .has .lawful .tracks) (l .has .permitted)
+  layable = tracks-layable (p .tracks) (l .spelling .tracks) (l .has .lawful .tracks) (l .has .permitted .tracks)
 
   sound : AllSound (pieceRecords p)
   sound = piece-sound p (l .has .lawful) layable

@@ -1,6 +1,7 @@
 -- A track's chunk, a track, and all the tracks, as the code reads them.
 use mathlib.Core.Path.{_≡_, refl, sym, ap, ap₂, _∙_}
 use Prim.Native.Nat.{ℕ, zero, suc, _+_, _-_, _<_, _≤_}
+use mathlib.Core.Bool.{true}
 use mathlib.Core.List.{List, _∷_, _++_, append-assoc}
 use native.Mathlib.Omega.{arith}
 use lib.ListN.{length, take, drop, length-drop, length-append}
@@ -8,17 +9,19 @@ use lib.Seq.{take-append-seam, drop-drop}
 use lib.Dec.{leb, eqb}
 use borrow.Author.Tests.{leb-true, leb-false, le-leb, lt-leb, eq-eqb, ne-eqb}
 use Rattle.event.specs.Bytes.{Bytes, bigEndian}
+use Rattle.event.specs.Choice.{pick}
 use Rattle.event.specs.Event.{Event}
 use Rattle.event.specs.Frame.{noStatus}
 use Rattle.event.specs.Outcome.{Outcome, ok, refused, andThen, check}
 use Rattle.event.specs.Reader.{readNumber}
 use Rattle.event.specs.declared.Time.{Time}
 use Rattle.event.proofs.ChoiceLaws.{by-test}
-use Rattle.event.proofs.OutcomeLaws.{check-eq}
+use Rattle.event.proofs.OutcomeLaws.{andThen-same, check-eq}
 use Rattle.event.proofs.BytesLaws.{bytes-drop, length-bigEndian, size-at}
 use Rattle.event.proofs.PlaceLaws.{place, place-back}
-use Rattle.smf.specs.Layout.{trackTag, layTrack}
-use Rattle.smf.specs.Reader.{readAll, readChunk, readTrack, readTracks}
+use Rattle.smf.specs.Chunk.{trackTag}
+use Rattle.smf.specs.Layout.{layChunk, layChunks, layTrack}
+use Rattle.smf.specs.Reader.{readAll, readHead, findTrack, readChunk, readTrack, readTracks}
 use Rattle.smf.specs.Step.{chunkStep, lastTime, walkStep, trackStep, tracksStep}
 use Rattle.smf.specs.declared.ChunkStep.{ChunkStep}
 use Rattle.smf.specs.declared.ChunkStep.the-variants.{Body, BadChunk}
@@ -27,7 +30,9 @@ use Rattle.smf.specs.declared.TrackStep.{TrackStep}
 use Rattle.smf.specs.declared.TrackStep.the-variants.{Track, BadTrack}
 use Rattle.smf.specs.declared.TracksStep.{TracksStep}
 use Rattle.smf.specs.declared.TracksStep.the-variants.{Next, BadTracks}
-use Rattle.smf.proofs.FileLaws.{ChunkLaid, chunk-sound, track-sound}
+use Rattle.smf.proofs.PassedLaws.{head-sound, ChunkLaid, chunk-sound}
+use Rattle.smf.proofs.FileLaws.{track-sound}
+use Rattle.smf.proofs.RefusalLaws.{head-size, track-size}
 use Rattle.smf.proofs.HeaderLaws.{N, number-there}
 
 -- ---- a chunk
@@ -35,41 +40,67 @@ use Rattle.smf.proofs.HeaderLaws.{N, number-there}
 abbrev C : List ℕ → ℕ → ChunkStep
 C s at = chunkStep (length s) (readChunk at (drop at s))
 
+-- ---- the count of findTrack never shows: any that is large enough gives the same
+
+pub find-fuel : (n m at : ℕ) (l : List ℕ) → Bytes l → length l < n → length l < m → findTrack n at l ≡ findTrack m at l
+unfolding findTrack
+find-fuel zero m at l bs hn hm = absurd (omega arith)
+find-fuel (suc n) zero at l bs hn hm = absurd (omega arith)
+find-fuel (suc n) (suc m) at l bs hn hm =
+    andThen-same (readHead at l) _ _ (λ h r q.
+    let laid = head-sound at l h r bs q in
+    let size = head-size l h r laid in
+    let fewer : length (drop (h .size) r) < length l = simp length-drop (omega arith) in
+    let rest = find-fuel n m (at + 8 + h .size) (drop (h .size) r) (bytes-drop r (h .size) (laid .after)) (omega arith) (omega arith) in
+    ap (λ z. check (leb (h .size) (length r)) 2 at (pick (eqb (h .tag) trackTag) (ok (take (h .size) r) (drop (h .size) r)) z)) rest)
+
 pub chunk-short : (s : List ℕ) (at : ℕ) → length s < at + 8 → BadChunk 2 at ≡ C s at
-unfolding readChunk check chunkStep
+unfolding readChunk findTrack readHead check andThen chunkStep
 chunk-short s at h =
     let few : length (drop at s) < 8 = simp length-drop (omega arith) in
     rw (lt-leb 8 (length (drop at s)) few)
 
-module _ (s : List ℕ) (at : ℕ) (h : at + 8 ≤ length s) (tag : ℕ) (et : tag ≡ N s 4 at) where
-  chunk-chain : readChunk at (drop at s)
-      ≡ check (eqb tag trackTag) 4 at
-      (check (leb (N s 4 (at + 4)) (length (drop (at + 8) s))) 2 at (ok (take (N s 4 (at + 4)) (drop (at + 8) s)) (drop (N s 4 (at + 4)) (drop (at + 8) s))))
-  unfolding readChunk andThen
-  chunk-chain =
+module _ (s : List ℕ) (at : ℕ) (h : at + 8 ≤ length s) where
+  pub head-there : readHead at (drop at s) ≡ ok (record { tag = N s 4 at; size = N s 4 (at + 4) }) (drop (at + 8) s)
+  unfolding readHead andThen
+  head-there =
       let fit : 8 ≤ length (drop at s) = simp length-drop (omega arith) in
       let e : at + 4 + 4 ≡ at + 8 = omega arith in
       let q0 = number-there s 4 at (omega arith) in
       let q1 : readNumber 4 (drop (at + 4) s) ≡ ok (N s 4 (at + 4)) (drop (at + 8) s) = number-there s 4 (at + 4) (omega arith) ∙ ap (λ k. ok (N s 4 (at + 4)) (drop k s)) e in
-      check-eq 2 at _ (le-leb 8 (length (drop at s)) fit) ∙ simp (q0, q1, ← et)
+      check-eq 2 at _ (le-leb 8 (length (drop at s)) fit) ∙ simp (q0, q1)
 
-  pub chunk-tag : (tag ≡ trackTag → ⊥) → BadChunk 4 at ≡ C s at
-  unfolding check chunkStep
-  chunk-tag n = simp (chunk-chain, ne-eqb tag trackTag n)
+  module _ (tag : ℕ) (et : tag ≡ N s 4 at) (n : ℕ) (en : n ≡ N s 4 (at + 4)) where
+    chunk-chain : readChunk at (drop at s)
+        ≡ check (leb n (length (drop (at + 8) s))) 2 at
+        (pick (eqb tag trackTag) (ok (take n (drop (at + 8) s)) (drop n (drop (at + 8) s))) (findTrack (length (drop at s)) (at + 8 + n) (drop n (drop (at + 8) s))))
+    unfolding readChunk findTrack andThen
+    chunk-chain = rw (et, en) (simp head-there)
 
-  module _ (right : tag ≡ trackTag) (n : ℕ) (en : n ≡ N s 4 (at + 4)) where
     pub chunk-long : length s - (at + 8) < n → BadChunk 2 at ≡ C s at
     unfolding check chunkStep
     chunk-long o =
         let few : length (drop (at + 8) s) < n = simp length-drop o in
-        simp (chunk-chain, eq-eqb tag trackTag right, ← en, lt-leb n (length (drop (at + 8) s)) few)
+        simp (chunk-chain, lt-leb n (length (drop (at + 8) s)) few)
 
-    pub chunk-fine : at + 8 + n ≤ length s → Body (at + 8) (at + 8 + n) ≡ C s at
-    unfolding check chunkStep
-    chunk-fine o =
-        let fit : n ≤ length (drop (at + 8) s) = simp length-drop (omega arith) in
-        let back : at + 8 + n - n ≡ at + 8 = omega arith in
-        simp (chunk-chain, eq-eqb tag trackTag right, ← en, le-leb n (length (drop (at + 8) s)) fit, drop-drop n (at + 8) s, place-back s (at + 8 + n) o, size-at s (at + 8) n o, back)
+    module _ (o : at + 8 + n ≤ length s) where
+      fit : leb n (length (drop (at + 8) s)) ≡ true
+      fit = let h : n ≤ length (drop (at + 8) s) = simp length-drop (omega arith) in le-leb n (length (drop (at + 8) s)) h
+
+      pub chunk-fine : tag ≡ trackTag → Body (at + 8) (at + 8 + n) ≡ C s at
+      unfolding check chunkStep pick
+      chunk-fine right =
+          let back : at + 8 + n - n ≡ at + 8 = omega arith in
+          simp (chunk-chain, fit, eq-eqb tag trackTag right, drop-drop n (at + 8) s, place-back s (at + 8 + n) o, size-at s (at + 8) n o, back)
+
+      -- a chunk with another tag: on with the next one
+      pub chunk-pass : Bytes s → (tag ≡ trackTag → ⊥) → C s at ≡ C s (at + 8 + n)
+      unfolding check chunkStep pick readChunk
+      chunk-pass bs wrong =
+          let few : length (drop (at + 8 + n) s) < length (drop at s) = simp length-drop (omega arith) in
+          let same = find-fuel (length (drop at s)) (suc (length (drop (at + 8 + n) s))) (at + 8 + n) (drop (at + 8 + n) s) (bytes-drop s (at + 8 + n) bs) few (omega arith) in
+          let on : readChunk at (drop at s) ≡ findTrack (suc (length (drop (at + 8 + n) s))) (at + 8 + n) (drop (at + 8 + n) s) = chunk-chain ∙ simp (fit, ne-eqb tag trackTag wrong, drop-drop n (at + 8) s) same in
+          ap (chunkStep (length s)) on
 
 pub chunk-bad : (n k p : ℕ) (m : Outcome (List ℕ)) → chunkStep n m ≡ BadChunk k p → m ≡ refused k p
 unfolding chunkStep
@@ -79,20 +110,32 @@ chunk-bad n k p (refused j z) e = let a : j ≡ k = cc in let b : z ≡ p = cc i
 -- the body that lies between two places of the file
 pub record BodyAt (s : List ℕ) (at a b : ℕ) : Type 0 where
   pub read : readChunk at (drop at s) ≡ ok (take (b - a) (drop a s)) (drop b s)
-  pub begins : a ≡ at + 8
+  pub begins : at + 8 ≤ a
+  pub start : at + (length (drop at s) - length (drop b s) - length (take (b - a) (drop a s))) ≡ a
   pub order : a ≤ b
   pub inside : b ≤ length s
   pub short : b - a ≤ 4294967295
 
+-- where the body begins, in plain numbers
+starts : (at n d c b r a : ℕ) → d ≡ c + 8 + (b + r) → d ≡ n - at → at ≤ n → n - r - b ≡ a → at + (d - r - b) ≡ a
+starts at n d c b r a e f h g = let x : d - r - b ≡ c + 8 = omega (arith, e) in let y : n ≡ at + (c + 8 + (b + r)) = omega (arith, e, f, h) in omega (arith, x, y, g)
+
 body-at : (s : List ℕ) (at a b : ℕ) (body r : List ℕ) → readChunk at (drop at s) ≡ ok body r → ChunkLaid (drop at s) body r → at ≤ length s
     → length s - length r - length body ≡ a → length s - length r ≡ b → BodyAt s at a b
+unfolding layChunk
 body-at s at a b body r come laid h ea eb =
-    let head : List ℕ = bigEndian 4 trackTag ++ bigEndian 4 (length body) in
-    let split : bigEndian 4 trackTag ++ (bigEndian 4 (length body) ++ body) ++ r ≡ head ++ (body ++ r) = simp append-assoc in
+    let cs : List ℕ = layChunks (laid .before) in
+    let pair : List ℕ = bigEndian 4 trackTag ++ bigEndian 4 (length body) in
+    let head : List ℕ = cs ++ pair in
+    let split : cs ++ (bigEndian 4 trackTag ++ (bigEndian 4 (length body) ++ body) ++ r) ≡ head ++ (body ++ r) = simp append-assoc in
     let whole : drop at s ≡ head ++ (body ++ r) = laid .bytes ∙ split in
-    let size : length s - at ≡ 8 + (length body + length r) = sym (length-drop at s) ∙ ap length whole ∙ simp (length-append, length-bigEndian) (omega arith) in
-    let rest : drop b s ≡ r = ap (λ k. drop k s) (sym eb) ∙ place s (bigEndian 4 trackTag ++ (bigEndian 4 (length body) ++ body)) r at (laid .bytes) in
+    let two : length pair ≡ 8 = simp (length-append, length-bigEndian) in
+    let heads : length head ≡ length cs + 8 = length-append cs pair ∙ ap (λ z. length cs + z) two in
     let both : length (body ++ r) ≡ length body + length r = length-append body r in
+    let all : length (head ++ (body ++ r)) ≡ length head + length (body ++ r) = length-append head (body ++ r) in
+    let dropped = length-drop at s in
+    let size : length (drop at s) ≡ length cs + 8 + (length body + length r) = ap length whole ∙ omega arith in
+    let rest : drop b s ≡ r = ap (λ k. drop k s) (sym eb) ∙ place s (head ++ body) r at (whole ∙ sym (append-assoc head body r)) in
     let from : a ≡ length s - length (body ++ r) = omega arith in
     let inner : drop a s ≡ body ++ r = ap (λ k. drop k s) from ∙ place s head (body ++ r) at whole in
     let count : b - a ≡ length body = omega arith in
@@ -100,6 +143,7 @@ body-at s at a b body r come laid h ea eb =
     record {
       read = come ∙ ap₂ ok (sym got) (sym rest);
       begins = omega arith;
+      start = rw (got, rest) (starts at (length s) (length (drop at s)) (length cs) (length body) (length r) a size dropped h ea);
       order = omega arith;
       inside = omega arith;
       short = omega (arith, laid .short);
@@ -145,7 +189,7 @@ walk-whole n c t (refused j z) l e = let w : _≡_ {A = ℕ} 0 1 = cc in absurd 
 module _ (s : List ℕ) (at a b : ℕ) (bs : Bytes s) (body : C s at ≡ Body a b) where
   walked : readTrack at (drop at s) ≡ andThen (readAll a 0 noStatus (take (b - a) (drop a s))) (λ es r. ok es (drop b s))
   unfolding readTrack andThen
-  walked = let there = chunk-body s at a b bs body in rw (there .read, ← (there .begins))
+  walked = let there = chunk-body s at a b bs body in rw (there .read, there .start)
 
   pub track-fault : (k p : ℕ) → Fault k p ≡ walkStep 0 0 (readAll a 0 noStatus (take (b - a) (drop a s))) → BadTrack k p ≡ T s at
   track-fault k p e = rw walked (walk-fault (length s) k p _ _ (sym e))
@@ -173,12 +217,13 @@ track-came : {X : Type 0} (s : List ℕ) (at : ℕ) (t : Time) (c q : ℕ) (m : 
 unfolding trackStep
 track-came s at t c q (ok es r) bs h come e k =
     let laid = track-sound at (drop at s) es r (bytes-drop s at bs) come in
-    let back : drop (length s - length r) s ≡ r = place s (layTrack es (laid .spelling)) r at (laid .bytes) in
+    let front : List ℕ = layChunks (laid .spelling .before) ++ layTrack es (laid .spelling .events) in
+    let back : drop (length s - length r) s ≡ r = place s front r at (laid .bytes ∙ sym (append-assoc (layChunks (laid .spelling .before)) (layTrack es (laid .spelling .events)) r)) in
     let pq : length s - length r ≡ q = cc in
     let pt : record { 0 = lastTime 0 es } ≡ t = cc in
     let pc : length es ≡ c = cc in
     let rest : r ≡ drop q s = cc in
-    let size : length (drop at s) ≡ length (layTrack es (laid .spelling)) + length r = ap length (laid .bytes) ∙ length-append (layTrack es (laid .spelling)) r in
+    let size = track-size (drop at s) es r laid in
     k es (come ∙ ap (ok es) rest) (omega (arith, length-drop at s)) (omega arith) pt pc
 track-came s at t c q (refused n z) bs h come e k = let w : _≡_ {A = ℕ} 0 1 = cc in absurd (omega arith)
 

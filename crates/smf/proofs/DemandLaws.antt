@@ -50,6 +50,7 @@ demand f bs =
     record {
       accepted = (λ z. zero-laid f bs z, λ (p, l, k). ap (λ m. verdict m .number) (demand-3 f bs p .1 (l, k)));
       piece = λ p l k. piece-is f p [] bs (check-ok _ 1 0 _ p [] (demand-3 f bs p .1 (l, k)) .1);
+      single = one-piece f;
     }
 
 -- both parts of what check promises

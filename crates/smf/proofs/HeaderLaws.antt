@@ -1,10 +1,11 @@
 -- The header as the code reads it: one law for each of its answers.
 use mathlib.Core.Path.{_≡_, sym, ap, _∙_}
-use Prim.Native.Nat.{ℕ, _+_, _<_, _≤_}
+use Prim.Native.Nat.{ℕ, _+_, _-_, _<_, _≤_}
 use mathlib.Core.Bool.{true, false}
 use mathlib.Core.List.{List}
 use native.Mathlib.Omega.{arith}
 use lib.ListN.{length, drop, length-drop}
+use lib.Seq.{drop-drop}
 use lib.Dec.{leb, eqb}
 use borrow.Author.Tests.{le-leb, lt-leb, eq-eqb, ne-eqb}
 use Rattle.event.specs.Bytes.{number}
@@ -15,7 +16,7 @@ use Rattle.event.proofs.OutcomeLaws.{check-eq}
 use Rattle.event.proofs.BytesLaws.{number-at}
 use Rattle.event.proofs.PlaceLaws.{place-back}
 use Rattle.event.proofs.RowLaws.{take-from}
-use Rattle.smf.specs.Layout.{headerTag}
+use Rattle.smf.specs.Chunk.{headerTag}
 use Rattle.smf.specs.Piece.{tracksFit}
 use Rattle.smf.specs.Reader.{countOk, divisionOk, readHeader}
 use Rattle.smf.specs.Step.{headerStep}
@@ -40,8 +41,9 @@ head-short s h = rw (lt-leb 14 (length s) h)
 
 module _ (s : List ℕ) (h : 14 ≤ length s) where
   chain : readHeader s
-      ≡ check (eqb (N s 4 0) headerTag) 3 0 (check (eqb (N s 4 4) 6) 3 4 (check (leb (N s 2 8) 2) 3 8 (check (countOk (N s 2 8) (N s 2 10)) 3 10
-      (check (divisionOk (N s 2 12)) 3 12 (ok (record { format = N s 2 8; count = N s 2 10; division = record { pulses = N s 2 12 } }) (drop 14 s))))))
+      ≡ check (eqb (N s 4 0) headerTag) 3 0 (check (leb 6 (N s 4 4)) 3 4 (check (leb (N s 4 4) (length (drop 8 s))) 2 0
+      (check (leb (N s 2 8) 2) 3 8 (check (countOk (N s 2 8) (N s 2 10)) 3 10
+      (check (divisionOk (N s 2 12)) 3 12 (ok (record { format = N s 2 8; count = N s 2 10; division = record { pulses = N s 2 12 } }) (drop (N s 4 4 - 6) (drop 14 s))))))))
   unfolding readHeader andThen
   chain =
       let q0 : readNumber 4 s ≡ ok (N s 4 0) (drop 4 s) = number-there s 4 0 (omega arith) in
@@ -60,43 +62,57 @@ module _ (s : List ℕ) (h : 14 ≤ length s) where
       y0 : eqb (N s 4 0) headerTag ≡ true
       y0 = eq-eqb (N s 4 0) headerTag (sym e0 ∙ t0)
 
-      pub head-size : (x1 ≡ 6 → ⊥) → BadHeader 3 4 ≡ H s
+      pub head-size : x1 < 6 → BadHeader 3 4 ≡ H s
       unfolding check headerStep
-      head-size n = simp (chain, y0, ← e1, ne-eqb x1 6 n)
+      head-size n = simp (chain, y0, ← e1, lt-leb 6 x1 n)
 
-      module _ (t1 : x1 ≡ 6) (x2 : ℕ) (e2 : x2 ≡ N s 2 8) where
-        y1 : eqb (N s 4 4) 6 ≡ true
-        y1 = eq-eqb (N s 4 4) 6 (sym e1 ∙ t1)
+      module _ (t1 : 6 ≤ x1) where
+        z1 : leb 6 (N s 4 4) ≡ true
+        z1 = rw (← e1) (le-leb 6 x1 t1)
 
-        pub head-format : 2 < x2 → BadHeader 3 8 ≡ H s
+        -- "2 at 0 for a header past the end"
+        pub head-past : length s - 8 < x1 → BadHeader 2 0 ≡ H s
         unfolding check headerStep
-        head-format n = simp (chain, y0, y1, ← e2, lt-leb x2 2 n)
+        head-past n =
+            let few : length (drop 8 s) < x1 = simp length-drop n in
+            let z : leb (N s 4 4) (length (drop 8 s)) ≡ false = rw (← e1) (lt-leb x1 (length (drop 8 s)) few) in
+            simp (chain, y0, z1, z)
 
-        module _ (t2 : x2 ≤ 2) (x3 : ℕ) (e3 : x3 ≡ N s 2 10) where
-          y2 : leb (N s 2 8) 2 ≡ true
-          y2 = rw (← e2) (le-leb x2 2 t2)
+        module _ (t5 : 8 + x1 ≤ length s) (x2 : ℕ) (e2 : x2 ≡ N s 2 8) where
+          y1 : leb (N s 4 4) (length (drop 8 s)) ≡ true
+          y1 = let fit : x1 ≤ length (drop 8 s) = simp length-drop (omega arith) in rw (← e1) (le-leb x1 (length (drop 8 s)) fit)
 
-          pub head-count : countOk x2 x3 ≡ false → BadHeader 3 10 ≡ H s
+          pub head-format : 2 < x2 → BadHeader 3 8 ≡ H s
           unfolding check headerStep
-          head-count n =
-              let z : countOk (N s 2 8) (N s 2 10) ≡ false = rw (← e2, ← e3) n in
-              simp (chain, y0, y1, y2, z)
+          head-format n = simp (chain, y0, z1, y1, ← e2, lt-leb x2 2 n)
 
-          module _ (t3 : countOk x2 x3 ≡ true) (x4 : ℕ) (e4 : x4 ≡ N s 2 12) where
-            y3 : countOk (N s 2 8) (N s 2 10) ≡ true
-            y3 = rw (← e2, ← e3) t3
+          module _ (t2 : x2 ≤ 2) (x3 : ℕ) (e3 : x3 ≡ N s 2 10) where
+            y2 : leb (N s 2 8) 2 ≡ true
+            y2 = rw (← e2) (le-leb x2 2 t2)
 
-            pub head-division : divisionOk x4 ≡ false → BadHeader 3 12 ≡ H s
+            pub head-count : countOk x2 x3 ≡ false → BadHeader 3 10 ≡ H s
             unfolding check headerStep
-            head-division n =
-                let z : divisionOk (N s 2 12) ≡ false = rw (← e4) n in
-                simp (chain, y0, y1, y2, y3, z)
+            head-count n =
+                let z : countOk (N s 2 8) (N s 2 10) ≡ false = rw (← e2, ← e3) n in
+                simp (chain, y0, z1, y1, y2, z)
 
-            pub head-fine : divisionOk x4 ≡ true → Fields x2 x3 (record { 0 = x4 }) 14 ≡ H s
-            unfolding check headerStep
-            head-fine n =
-                let z : divisionOk (N s 2 12) ≡ true = rw (← e4) n in
-                rw (e2, e3, e4) (simp (chain, y0, y1, y2, y3, z, place-back s 14 h))
+            module _ (t3 : countOk x2 x3 ≡ true) (x4 : ℕ) (e4 : x4 ≡ N s 2 12) where
+              y3 : countOk (N s 2 8) (N s 2 10) ≡ true
+              y3 = rw (← e2, ← e3) t3
+
+              pub head-division : divisionOk x4 ≡ false → BadHeader 3 12 ≡ H s
+              unfolding check headerStep
+              head-division n =
+                  let z : divisionOk (N s 2 12) ≡ false = rw (← e4) n in
+                  simp (chain, y0, z1, y1, y2, y3, z)
+
+              pub head-fine : divisionOk x4 ≡ true → Fields x2 x3 (record { 0 = x4 }) (8 + x1) ≡ H s
+              unfolding check headerStep
+              head-fine n =
+                  let z : divisionOk (N s 2 12) ≡ true = rw (← e4) n in
+                  let sum : 14 + (x1 - 6) ≡ 8 + x1 = omega arith in
+                  let rest : drop (N s 4 4 - 6) (drop 14 s) ≡ drop (8 + x1) s = ap (λ k. drop (k - 6) (drop 14 s)) (sym e1) ∙ drop-drop (x1 - 6) 14 s ∙ ap (λ k. drop k s) sum in
+                  rw (e2, e3, e4) (simp (chain, y0, z1, y1, y2, y3, z, rest, place-back s (8 + x1) t5))
 
 -- ---- its tests
 

@@ -1,10 +1,12 @@
 pub mod TrackLaws
+pub mod PassedLaws
 pub mod FileLaws
 pub mod DemandLaws
 pub mod MannerLaws
 pub mod Example
 pub mod RefusalLaws
 pub mod Slips
+pub mod ChunkCases
 pub mod HeaderLaws
 pub mod CameLaws
 pub mod WalkLaws

@@ -15,7 +15,7 @@ use Rattle.event.specs.Outcome.{Outcome, ok, andThen, Readable, valueOr}
 use Rattle.event.specs.declared.Time.{Time}
 use Rattle.event.proofs.OutcomeLaws.{ok-same, andThen-ok, check-ok, cons-readable, cons-value}
 use Rattle.smf.specs.Piece.{Piece}
-use Rattle.smf.specs.Reader.{readTrack, readTracks, readHeader, readPiece, readFile}
+use Rattle.smf.specs.Reader.{readTrack, readTracks, readHeader, readBehind, readPiece, readFile}
 use Rattle.smf.specs.Answer.{success, roomNeeded, verdict}
 use Rattle.smf.specs.Step.{headerStep, lastTime, trackStep}
 use Rattle.smf.specs.Listing.{endTimes, eventCounts, hasRoom, listAnswer, listLeaves}
@@ -25,7 +25,7 @@ use Rattle.smf.specs.declared.HeaderStep.the-variants.{Fields}
 use Rattle.smf.specs.declared.TrackStep.the-variants.{Track, BadTrack}
 use Rattle.event.proofs.BytesLaws.{bytes-drop}
 use Rattle.event.proofs.PlaceLaws.{place-back}
-use Rattle.smf.proofs.FileLaws.{tracks-sound, more-sound}
+use Rattle.smf.proofs.FileLaws.{tracks-sound}
 use Rattle.smf.proofs.RefusalLaws.{judged-refused}
 use Rattle.smf.proofs.ChunkLaws.{track-bad, track-found}
 use Rattle.smf.proofs.VerdictLaws.{head-at}
@@ -105,13 +105,14 @@ accepted-piece s a b d n p r bs e q =
     andThen-ok (readHeader s) _ p r q0 (λ h l qh q1.
     andThen-ok _ _ p r q1 (λ ts m qt q2.
     ok-same (there .header) h _ l (sym (there .read) ∙ qh) (λ sameHead rest.
-    more-sound _ _ p m r q2 (λ mn same rn.
+    andThen-ok (readBehind (length s - length m) m) _ p r q2 (λ cs q7 qb q8.
+    ok-same _ p q7 r q8 (λ same rn.
     let count : h .count ≡ b = ap (λ z. z .count) (sym sameHead) ∙ there .sameCount in
     let at : length s - length l ≡ n = ap (λ z. length s - length z) (sym rest) ∙ place-back s n (there .inside) in
     let tracks : R s b n ≡ ok ts m = ap₂ (λ x y. readTracks x y (drop n s)) (sym count) (sym at) ∙ ap (readTracks (h .count) (length s - length l)) rest ∙ qt in
     let laid = tracks-sound b n (drop n s) ts m (bytes-drop s n bs) tracks in
     let inPiece : p .tracks ≡ ts = ap (λ z. z .tracks) (sym same) in
-    record { piece = p; rest = r; left = m; read = q; tracks = tracks ∙ ap (λ z. ok z m) (sym inPiece); count = ap length inPiece ∙ laid .count }))))
+    record { piece = p; rest = r; left = m; read = q; tracks = tracks ∙ ap (λ z. ok z m) (sym inPiece); count = ap length inPiece ∙ laid .count })))))
 
 module _ (s : List ℕ) (b n : ℕ) (there : Accepted s b n) where
   pub accepted-readable : Readable (R s b n)

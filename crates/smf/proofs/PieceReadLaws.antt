@@ -19,13 +19,13 @@ use Rattle.event.proofs.PlaceLaws.{place}
 use Rattle.event.proofs.DataLaws.{kind-there}
 use Rattle.event.proofs.StepLaws.{end-of}
 use Rattle.smf.specs.Piece.{Piece}
-use Rattle.smf.specs.Reader.{readEvents, readAll, readChunk, readTrack, readTracks, readHeader, readPiece}
+use Rattle.smf.specs.Reader.{readEvents, readAll, readChunk, readTrack, readTracks, readHeader, readBehind, readPiece}
 use Rattle.smf.specs.Step.{headerStep, chunkStep}
 use Rattle.smf.specs.PieceRead.{untilEnd, eventsRead, trackRead, tracksRead, pieceFrom, pieceRead}
 use Rattle.smf.specs.declared.ChunkStep.{ChunkStep}
 use Rattle.smf.specs.declared.ChunkStep.the-variants.{Body, BadChunk}
 use Rattle.smf.proofs.TrackLaws.{go-sound}
-use Rattle.smf.proofs.FileLaws.{chunk-sound, more-sound}
+use Rattle.smf.proofs.PassedLaws.{chunk-sound}
 use Rattle.smf.proofs.RefusalLaws.{chunk-size}
 use Rattle.smf.proofs.ChunkLaws.{BodyAt, chunk-body}
 use Rattle.smf.proofs.VerdictLaws.{head-at}
@@ -107,7 +107,7 @@ tracks-are (suc n) at f ts r bs h e =
     andThen-ok _ _ ts r e (λ t m qt e1.
     andThen-ok _ _ ts r e1 (λ us q qu e2.
     andThen-ok (readChunk at (drop at f)) _ t m qt (λ body l qc e3.
-    andThen-ok (readAll (at + 8) 0 noStatus body) _ t m e3 (λ es z qa e4.
+    andThen-ok (readAll (at + (length (drop at f) - length l - length body)) 0 noStatus body) _ t m e3 (λ es z qa e4.
     ok-same es t l m e4 (λ pt lm.
     ok-same (t ∷ us) ts q r e2 (λ pts qr.
     let there = chunk-at f at body l bs h qc in
@@ -115,9 +115,9 @@ tracks-are (suc n) at f ts r bs h e =
     let size = chunk-size (drop at f) body l laid in
     let whole = length-drop at f in
     let b : ℕ = length f - length l in
-    let next : at + (length (drop at f) - length m) ≡ b = ap (λ z. at + (length (drop at f) - length z)) (sym lm) ∙ omega arith in
+    let next : at + (length (drop at f) - length m) ≡ b = ap (λ z. at + (length (drop at f) - length z)) (sym lm) ∙ omega (arith, size, whole, h) in
     let rest : drop b f ≡ m = ok-same body _ l _ (sym qc ∙ there .read) (λ pb pl. sym pl ∙ lm) in
-    let inner : trackRead body ≡ t = track-is (at + 8) body es z (laid .inside) qa ∙ pt in
+    let inner : trackRead body ≡ t = track-is _ body es z (laid .inside) qa ∙ pt in
     let more : readTracks n b (drop b f) ≡ ok us q = ap₂ (readTracks n) (sym next) rest ∙ qu in
     let again = tracks-are n b f us q bs (there .inside) more in
     tracks-turn n f at body l bs h qc ∙ ap₂ (λ x y. x ∷ y) inner again ∙ pts))))))
@@ -132,4 +132,6 @@ piece-is f p r bs e =
     let there = head-at f (h .format) (h .count) (record { 0 = h .division .pulses }) (length f - length l) bs (ap (headerStep (length f)) qh) in
     let rest : drop (length f - length l) f ≡ l = ok-same (there .header) h _ l (sym (there .read) ∙ qh) (λ a b. b) in
     let tracks = tracks-are (h .count) (length f - length l) f ts m bs (there .inside) (ap (readTracks (h .count) (length f - length l)) rest ∙ qt) in
-    rw qh (ap (λ z. record { format = h .format; division = record { pulses = h .division .pulses }; tracks = z }) tracks) ∙ more-sound _ _ p m r e2 (λ mn same rn. same)))
+    andThen-ok (readBehind (length f - length m) m) _ p r e2 (λ cs q q7 e7.
+    ok-same _ p q r e7 (λ same qr.
+    rw qh (ap (λ z. record { format = h .format; division = record { pulses = h .division .pulses }; tracks = z }) tracks) ∙ same))))

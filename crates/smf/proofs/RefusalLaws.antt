@@ -1,11 +1,11 @@
--- Every refusal of a file has a number from 1 to 13, and its place lies in the file.
+-- Every refusal of a file has a number from 1 to 13 other than 4, and its place lies in the file.
 use mathlib.Core.Path.{_≡_, refl, sym, ap, _∙_}
 use Prim.Native.Nat.{ℕ, zero, suc, _+_, _-_, _≤_}
 use mathlib.Core.Bool.{Bool, true, false}
-use mathlib.Core.List.{List, [], _∷_}
+use mathlib.Core.List.{List, [], _∷_, _++_}
 use native.Mathlib.Omega.{arith}
-use lib.ListN.{length, length-append}
-use lib.Dec.{leb}
+use lib.ListN.{length, drop, length-append, length-drop}
+use lib.Dec.{leb, eqb}
 use borrow.Author.Tests.{leb-true}
 use Rattle.event.specs.Bytes.{Bytes}
 use Rattle.event.specs.Event.{Event, isEnd}
@@ -14,15 +14,17 @@ use Rattle.event.specs.Outcome.{Outcome, ok, refused, check, Readable}
 use Rattle.event.specs.Reader.{readEvent}
 use Rattle.event.proofs.ChoiceLaws.{by-test}
 use Rattle.event.proofs.OutcomeLaws.{placed-ok}
-use Rattle.event.proofs.BytesLaws.{length-bigEndian}
+use Rattle.event.proofs.BytesLaws.{bytes-drop, length-bigEndian}
 use Rattle.event.proofs.EventLaws.{event-shorter}
-use Rattle.event.proofs.RefusalLaws.{Fair, then-fair, check-fair, placed-fair, number-fair, event-fair}
+use Rattle.event.proofs.RefusalLaws.{Fair, then-fair, check-fair, pick-fair, placed-fair, number-fair, event-fair}
 use Rattle.smf.specs.Piece.{Piece}
-use Rattle.smf.specs.Layout.{layTrack}
-use Rattle.smf.specs.Reader.{ended, goOn, readEvents, readAll, readChunk, readTrack, readTracks, readHeader, noMore, readPiece, fileLimit, readFile}
+use Rattle.smf.specs.Chunk.{trackTag}
+use Rattle.smf.specs.Layout.{layChunk, layChunks, layTrack, layTracks}
+use Rattle.smf.specs.Reader.{ended, goOn, readEvents, readAll, Head, readHead, findTrack, readChunk, readTrack, readTracks, readHeader, passOver, readBehind, readPiece, fileLimit, readFile}
 use Rattle.smf.specs.Answer.{refusal, verdict}
 use Rattle.smf.specs.declared.Answer.{Answer}
-use Rattle.smf.proofs.FileLaws.{ChunkLaid, chunk-sound, track-sound, header-sound, header-size}
+use Rattle.smf.proofs.PassedLaws.{HeadLaid, head-sound, chunk-length, ChunkLaid, chunk-sound, pass-step, pass-none}
+use Rattle.smf.proofs.FileLaws.{TrackLaid, track-sound, tracks-sound, header-sound, header-size}
 
 go-fair : (m : ℕ) (b : Bool) (at : ℕ) (e : Event) (r : List ℕ) (k : Outcome (List Event)) → at ≤ m → Fair 13 m k → Fair 13 m (goOn b at e r k)
 unfolding goOn ended
@@ -39,25 +41,64 @@ events-fair m (suc n) at prev f l bs h =
     go-fair m (isEnd (e .kind)) (at + (length l - length r)) e r _ (omega arith)
     (events-fair m n (at + (length l - length r)) (e .time) (after (frame (e .kind))) r br (omega arith)))
 
-chunk-fair : (m at : ℕ) (l : List ℕ) → at ≤ m → Fair 13 m (readChunk at l)
-unfolding readChunk
-chunk-fair m at l h =
-    check-fair 13 m _ 2 at _ (omega arith) (λ c0.
-    then-fair 13 m _ _ (number-fair m 4 l) (λ tag l1 q1.
-    check-fair 13 m _ 4 at _ (omega arith) (λ c1.
-    then-fair 13 m _ _ (number-fair m 4 l1) (λ n l2 q2. check-fair 13 m _ 2 at _ (omega arith) (λ c2. tt)))))
+head-fair : (m at : ℕ) (l : List ℕ) → at ≤ m → Fair 13 m (readHead at l)
+unfolding readHead
+head-fair m at l h =
+    check-fair 13 m _ 2 at _ (omega arith) (λ c0. then-fair 13 m _ _ (number-fair m 4 l) (λ tag l1 q1. then-fair 13 m _ _ (number-fair m 4 l1) (λ n l2 q2. tt)))
 
--- a chunk's bytes are eight, its body and the rest
-pub chunk-size : (l body r : List ℕ) → ChunkLaid l body r → length l ≡ 8 + length body + length r
-chunk-size l body r laid = ap length (laid .bytes) ∙ simp (length-append, length-bigEndian) (omega arith)
+-- a head and its bytes are eight and as many more
+pub head-size : (l : List ℕ) (h : Head) (r : List ℕ) → HeadLaid l h r → length l ≡ 8 + length r
+head-size l h r laid = ap length (laid .bytes) ∙ simp (length-append, length-bigEndian) (omega arith)
+
+find-fair : (m n at : ℕ) (l : List ℕ) → Bytes l → at + length l ≤ m → Fair 13 m (findTrack n at l)
+unfolding findTrack
+find-fair m zero at l bs h = omega arith
+find-fair m (suc n) at l bs h =
+    then-fair 13 m _ _ (head-fair m at l (omega arith)) (λ x r q.
+    let laid = head-sound at l x r bs q in
+    let size = head-size l x r laid in
+    check-fair 13 m _ 2 at _ (omega arith) (λ c.
+    let fit = leb-true (x .size) (length r) c in
+    pick-fair 13 m (eqb (x .tag) trackTag) _ _ tt
+    (find-fair m n (at + 8 + x .size) (drop (x .size) r) (bytes-drop r (x .size) (laid .after)) (simp length-drop (omega arith)))))
+
+stuck-fair : (m at : ℕ) (l : List ℕ) → at ≤ m → Fair 13 m (passOver zero at l)
+unfolding passOver
+stuck-fair m at l h = (omega arith, h)
+
+pass-fair : (m n at : ℕ) (l : List ℕ) → Bytes l → at + length l ≤ m → Fair 13 m (passOver n at l)
+pass-fair m zero at l bs h = stuck-fair m at l (omega arith)
+pass-fair m (suc n) at [] bs h = rw (pass-none n at) tt
+pass-fair m (suc n) at (b ∷ l) bs h =
+    rw (pass-step n at (b ∷ l) (omega arith))
+    (then-fair 13 m _ _ (head-fair m at (b ∷ l) (omega arith)) (λ x r q.
+    let laid = head-sound at (b ∷ l) x r bs q in
+    let size = head-size (b ∷ l) x r laid in
+    check-fair 13 m _ 13 at _ (omega arith) (λ c0.
+    check-fair 13 m _ 2 at _ (omega arith) (λ c.
+    let fit = leb-true (x .size) (length r) c in
+    then-fair 13 m _ _ (pass-fair m n (at + 8 + x .size) (drop (x .size) r) (bytes-drop r (x .size) (laid .after)) (simp length-drop (omega arith))) (λ cs q e. tt)))))
+
+-- a chunk's bytes are those of the chunks before it, eight, its body and the rest
+pub chunk-size : (l body r : List ℕ) (laid : ChunkLaid l body r) → length l ≡ length (layChunks (laid .before)) + (8 + length body + length r)
+chunk-size l body r laid =
+    ap length (laid .bytes) ∙ length-append (layChunks (laid .before)) (layChunk trackTag body ++ r)
+    ∙ ap (λ z. length (layChunks (laid .before)) + z) (length-append (layChunk trackTag body) r ∙ ap (λ z. z + length r) (chunk-length trackTag body))
 
 track-fair : (m at : ℕ) (l : List ℕ) → Bytes l → at + length l ≤ m → Fair 13 m (readTrack at l)
-unfolding readTrack readAll
+unfolding readTrack readChunk readAll
 track-fair m at l bs h =
-    then-fair 13 m _ _ (chunk-fair m at l (omega arith)) (λ body r q.
+    then-fair 13 m _ _ (find-fair m (suc (length l)) at l bs h) (λ body r q.
     let laid = chunk-sound at l body r bs q in
     let size = chunk-size l body r laid in
-    then-fair 13 m _ _ (events-fair m (suc (length body)) (at + 8) 0 noStatus body (laid .inside) (omega arith)) (λ es z e. tt))
+    then-fair 13 m _ _ (events-fair m (suc (length body)) (at + (length l - length r - length body)) 0 noStatus body (laid .inside) (omega arith)) (λ es z e. tt))
+
+-- a track's bytes, those of the chunks before it, and the rest
+pub track-size : (l : List ℕ) (es : List Event) (r : List ℕ) (laid : TrackLaid l es r)
+    → length l ≡ length (layChunks (laid .spelling .before)) + (length (layTrack es (laid .spelling .events)) + length r)
+track-size l es r laid =
+    ap length (laid .bytes) ∙ length-append (layChunks (laid .spelling .before)) (layTrack es (laid .spelling .events) ++ r)
+    ∙ ap (λ z. length (layChunks (laid .spelling .before)) + z) (length-append (layTrack es (laid .spelling .events)) r)
 
 tracks-fair : (m n at : ℕ) (l : List ℕ) → Bytes l → at + length l ≤ m → Fair 13 m (readTracks n at l)
 unfolding readTracks
@@ -65,7 +106,7 @@ tracks-fair m zero at l bs h = tt
 tracks-fair m (suc n) at l bs h =
     then-fair 13 m _ _ (track-fair m at l bs h) (λ t r q.
     let laid = track-sound at l t r bs q in
-    let size : length l ≡ length (layTrack t (laid .spelling)) + length r = ap length (laid .bytes) ∙ length-append (layTrack t (laid .spelling)) r in
+    let size = track-size l t r laid in
     then-fair 13 m _ _ (tracks-fair m n (at + (length l - length r)) r (laid .after) (omega arith)) (λ ts s e. tt))
 
 header-fair : (f : List ℕ) → Fair 13 (length f) (readHeader f)
@@ -75,24 +116,22 @@ header-fair f =
     check-fair 13 m _ 2 0 _ (omega arith) (λ c.
     let big : 14 ≤ length f = leb-true 14 (length f) c in
     then-fair 13 m _ _ (number-fair m 4 f) (λ a l1 q1. check-fair 13 m _ 3 0 _ (omega arith) (λ c1.
-    then-fair 13 m _ _ (number-fair m 4 l1) (λ b l2 q2. check-fair 13 m _ 3 4 _ (omega arith) (λ c2.
+    then-fair 13 m _ _ (number-fair m 4 l1) (λ b l2 q2. check-fair 13 m _ 3 4 _ (omega arith) (λ c2. check-fair 13 m _ 2 0 _ (omega arith) (λ c6.
     then-fair 13 m _ _ (number-fair m 2 l2) (λ d l3 q3. check-fair 13 m _ 3 8 _ (omega arith) (λ c3.
     then-fair 13 m _ _ (number-fair m 2 l3) (λ e l4 q4. check-fair 13 m _ 3 10 _ (omega arith) (λ c4.
-    then-fair 13 m _ _ (number-fair m 2 l4) (λ g l5 q5. check-fair 13 m _ 3 12 _ (omega arith) (λ c5. tt)))))))))))
-
-more-fair : (m at : ℕ) (p : Piece) (l : List ℕ) → at ≤ m → Fair 13 m (noMore at p l)
-unfolding noMore
-more-fair m at p [] h = tt
-more-fair m at p (b ∷ l) h = (omega arith, h)
+    then-fair 13 m _ _ (number-fair m 2 l4) (λ g l5 q5. check-fair 13 m _ 3 12 _ (omega arith) (λ c5. tt))))))))))))
 
 pub file-fair : (f : List ℕ) → Bytes f → Fair 13 (length f) (readFile f)
-unfolding readFile readPiece
+unfolding readFile readPiece readBehind
 file-fair f bs =
     check-fair 13 (length f) _ 1 0 _ (omega arith) (λ c.
     then-fair 13 (length f) _ _ (header-fair f) (λ h l q.
     let laid = header-sound f h l bs q in
-    let size : length f ≡ 14 + length l = ap length (laid .bytes) ∙ header-size (h .format) (h .count) (h .division) l in
-    then-fair 13 (length f) _ _ (tracks-fair (length f) (h .count) (length f - length l) l (laid .after) (omega arith)) (λ ts r e. more-fair (length f) _ _ r (omega arith))))
+    let size = ap length (laid .bytes) ∙ header-size (h .format) (h .count) (h .division) (laid .extra) l in
+    then-fair 13 (length f) _ _ (tracks-fair (length f) (h .count) (length f - length l) l (laid .after) (omega arith)) (λ ts r e.
+    let tracks = tracks-sound (h .count) _ l ts r (laid .after) e in
+    let some = ap length (tracks .bytes) ∙ length-append (layTracks ts (tracks .spelling)) r in
+    then-fair 13 (length f) _ _ (pass-fair (length f) (suc (length r)) (length f - length r) r (tracks .after) (omega arith)) (λ cs q e. tt))))
 
 -- ---- what a verdict says
 

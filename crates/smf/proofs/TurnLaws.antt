@@ -89,12 +89,12 @@ pub record TrackTurn (s : List ℕ) (left n at a b : ℕ) : Type 0 where
   pub rest : Readable (R s n b)
   pub all : valueOr [] (R s left at) ≡ valueOr [] (readAll 0 0 0 (take (b - a) (drop a s))) ∷ valueOr [] (R s n b)
 
-turn-with : (s : List ℕ) (n at a b : ℕ) (x : Outcome (List Event)) → Bytes (take (b - a) (drop a s)) → readAll (at + 8) 0 noStatus (take (b - a) (drop a s)) ≡ x
+turn-with : (s : List ℕ) (n at a b : ℕ) (x : Outcome (List Event)) → Bytes (take (b - a) (drop a s)) → readAll a 0 noStatus (take (b - a) (drop a s)) ≡ x
     → R s (suc n) at ≡ andThen (andThen x (λ es q. ok es (drop b s))) (λ t r. andThen (readTracks n (at + (length (drop at s) - length r)) r) (λ ts q. ok (t ∷ ts) q))
     → at + (length (drop at s) - length (drop b s)) ≡ b → Readable (R s (suc n) at) → TrackTurn s (suc n) n at a b
 unfolding andThen Readable valueOr
 turn-with s n at a b (ok es q) bs e step next good =
-    let there : readAll 0 0 0 (take (b - a) (drop a s)) ≡ ok es [] = anywhere (at + 8) 0 0 (take (b - a) (drop a s)) es q bs e in
+    let there : readAll 0 0 0 (take (b - a) (drop a s)) ≡ ok es [] = anywhere a 0 0 (take (b - a) (drop a s)) es q bs e in
     let one : R s (suc n) at ≡ andThen (R s n b) (λ ts r. ok (es ∷ ts) r) = step ∙ ap (λ z. andThen (readTracks n z (drop b s)) (λ ts r. ok (es ∷ ts) r)) next in
     let rest : Readable (R s n b) = cons-readable es (R s n b) (rw one at good) in
     let all : valueOr [] (R s (suc n) at) ≡ es ∷ valueOr [] (R s n b) = ap (valueOr []) one ∙ cons-value es (R s n b) rest in
@@ -106,7 +106,7 @@ unfolding readTracks readTrack andThen
 turn-one s n at a b bs e good =
     let there = chunk-body s at a b bs e in
     let next : at + (length (drop at s) - length (drop b s)) ≡ b = simp length-drop (omega (arith, there .begins, there .order, there .inside)) in
-    turn-with s n at a b _ (bytes-take (drop a s) (b - a) (bytes-drop s a bs)) refl (rw (there .read) refl) next good
+    turn-with s n at a b _ (bytes-take (drop a s) (b - a) (bytes-drop s a bs)) refl (rw (there .read, there .start) refl) next good
 
 pub turn-track : (s : List ℕ) (left n at a b : ℕ) → left ≡ suc n → Bytes s → chunkStep (length s) (readChunk at (drop at s)) ≡ Body a b → Readable (R s left at) → TrackTurn s left n at a b
 turn-track s left n at a b q bs e good = rw q (turn-one s n at a b bs e (rw q at good))

@@ -1,7 +1,6 @@
 -- "An answer is number, place and length."
 use Prim.Native.Nat.{ℕ}
 use Rattle.event.specs.Outcome.{Outcome, ok, refused}
-use Rattle.smf.specs.Piece.{Piece}
 use Rattle.smf.specs.declared.Answer.{Answer}
 
 -- "Success: 0, place 0, the length written"
@@ -16,7 +15,7 @@ refusal number place = record { number = number; place = place; length = 0 }
 abbrev pub roomNeeded : ℕ → Answer
 roomNeeded n = record { number = 14; place = 0; length = n }
 
--- the verdict on a file: "the length written (0 for checking a file)"
-unfoldable pub verdict : Outcome Piece → Answer
-verdict (ok p r) = success 0
+-- the verdict on what was read, a file or what stands after its last track: "the length written (0 for checking a file)"
+unfoldable pub verdict : {A : Type 0} → Outcome A → Answer
+verdict (ok x r) = success 0
 verdict (refused n p) = refusal n p

@@ -1,5 +1,5 @@
--- Demand 3 of one file as a whole: "A file is accepted exactly when some piece with some permitted spelling lays out to its
--- bytes; the piece read is that piece".
+-- Demand 3 of one file as a whole, in one claim: "A file is accepted exactly when some piece with some permitted spelling lays out
+-- to its bytes; the piece read is that piece; no file of any length is the layout of two pieces."
 use mathlib.Core.Path.{_≡_}
 use Prim.Native.Nat.{ℕ, _≤_}
 use mathlib.Core.List.{List}
@@ -14,3 +14,4 @@ use Rattle.smf.specs.PieceRead.{pieceRead}
 pub record Demand3 (f : List ℕ) (number : ℕ) : Type 0 where
   pub accepted : (number ≡ 0) ↔ ((p : Piece) × LaidOut f p × (length f ≤ fileLimit))
   pub piece : (p : Piece) → LaidOut f p → length f ≤ fileLimit → pieceRead f ≡ p
+  pub single : (p q : Piece) → LaidOut f p → LaidOut f q → p ≡ q

@@ -1,4 +1,5 @@
 pub mod Piece
+pub mod Chunk
 pub mod Spelling
 pub mod Layout
 pub mod Manner
@@ -12,5 +13,6 @@ pub mod PlacedFile
 pub mod Demand3
 pub mod Listing
 pub mod Slips
+pub mod ChunkCases
 pub mod Writing
 pub mod Code

@@ -1,15 +1,16 @@
--- Reading a file, with the refusals of document 01, their places and their order.
+-- Reading a file, with the refusals of documents 01 and 02, their places and their order.
 use Prim.Native.Nat.{ℕ, zero, suc, _+_, _-_}
-use mathlib.Core.Bool.{Bool, true, false, _&&_}
+use mathlib.Core.Bool.{Bool, true, false, not, _&&_}
 use mathlib.Core.List.{List, [], _∷_}
 use lib.ListN.{length, take, drop}
 use lib.Dec.{leb, eqb}
+use Rattle.event.specs.Choice.{pick}
 use Rattle.event.specs.Outcome.{Outcome, ok, refused, andThen, check, placed}
 use Rattle.event.specs.Event.{Event, isEnd}
 use Rattle.event.specs.Frame.{frame, after, noStatus}
 use Rattle.event.specs.Reader.{readNumber, readEvent}
 use Rattle.smf.specs.Piece.{Piece, Header, tracksFit}
-use Rattle.smf.specs.Layout.{headerTag, trackTag}
+use Rattle.smf.specs.Chunk.{headerTag, trackTag, Chunk}
 
 -- ---- the events of a track
 
@@ -36,23 +37,38 @@ readEvents (suc n) at prev force l =
 unfoldable pub readAll : ℕ → ℕ → ℕ → List ℕ → Outcome (List Event)
 readAll at prev force l = readEvents (suc (length l)) at prev force l
 
--- ---- a track's chunk at the place `at`: "2 (under 8), 4, 2 (length)"
+-- ---- chunks
 
--- the bytes of its events, and what follows the chunk
-unfoldable pub readChunk : ℕ → List ℕ → Outcome (List ℕ)
-readChunk at l =
+-- what a chunk begins with: its tag and the number of its bytes
+pub record Head : Type 0 where
+  pub tag : ℕ
+  pub size : ℕ
+
+-- 2: "under 8 left where a track must begin", and after the last track "1 to 7 left bytes"
+unfoldable pub readHead : ℕ → List ℕ → Outcome Head
+readHead at l =
     check (leb 8 (length l)) 2 at
     (andThen (readNumber 4 l) (λ tag l1.
-    check (eqb tag trackTag) 4 at
-    (andThen (readNumber 4 l1) (λ n l2.
-    check (leb n (length l2)) 2 at
-    (ok (take n l2) (drop n l2))))))
+    andThen (readNumber 4 l1) (λ n l2. ok (record { tag = tag; size = n }) l2)))
 
--- its events: they begin 8 bytes on
+-- the bytes of the next track's events, and what follows its chunk; chunks with other tags are passed over. "2 takes any chunk's
+-- length"; n is more than there are chunks (it never shows: find-fuel)
+unfoldable pub findTrack : ℕ → ℕ → List ℕ → Outcome (List ℕ)
+findTrack zero at l = refused 2 at
+findTrack (suc n) at l =
+    andThen (readHead at l) (λ h r.
+    check (leb (h .size) (length r)) 2 at
+    (pick (eqb (h .tag) trackTag) (ok (take (h .size) r) (drop (h .size) r)) (findTrack n (at + 8 + h .size) (drop (h .size) r))))
+
+-- every chunk takes eight bytes at least
+unfoldable pub readChunk : ℕ → List ℕ → Outcome (List ℕ)
+readChunk at l = findTrack (suc (length l)) at l
+
+-- its events: its body stands right before what follows the chunk
 unfoldable pub readTrack : ℕ → List ℕ → Outcome (List Event)
 readTrack at l =
     andThen (readChunk at l) (λ body r.
-    andThen (readAll (at + 8) 0 noStatus body) (λ es q. ok es r))
+    andThen (readAll (at + (length l - length r - length body)) 0 noStatus body) (λ es q. ok es r))
 
 -- "As many tracks as counted"
 unfoldable pub readTracks : ℕ → ℕ → List ℕ → Outcome (List (List Event))
@@ -71,30 +87,41 @@ countOk format n = leb 1 n && tracksFit format n
 unfoldable pub divisionOk : ℕ → Bool
 divisionOk n = leb 1 n && leb n 32767
 
--- "Header, 14 bytes", and the refusals 2 (under 14) and 3 with their places
+-- the header: 2 (under 14), 3 (tag), 3 (length under 6), "next, before the format, 2 at 0 for a header past the end", 3 (format, count,
+-- division); "its extra bytes passed over"
 unfoldable pub readHeader : List ℕ → Outcome Header
 readHeader f =
     check (leb 14 (length f)) 2 0
     (andThen (readNumber 4 f) (λ tag l1. check (eqb tag headerTag) 3 0
-    (andThen (readNumber 4 l1) (λ size l2. check (eqb size 6) 3 4
+    (andThen (readNumber 4 l1) (λ size l2. check (leb 6 size) 3 4 (check (leb size (length l2)) 2 0
     (andThen (readNumber 2 l2) (λ format l3. check (leb format 2) 3 8
     (andThen (readNumber 2 l3) (λ n l4. check (countOk format n) 3 10
     (andThen (readNumber 2 l4) (λ d l5. check (divisionOk d) 3 12
-    (ok (record { format = format; count = n; division = record { pulses = d } }) l5)))))))))))
+    (ok (record { format = format; count = n; division = record { pulses = d } }) (drop (size - 6) l5)))))))))))))
 
 -- ---- the whole file
 
--- 13: bytes "after the last track", at the "first such byte"
-unfoldable pub noMore : ℕ → Piece → List ℕ → Outcome Piece
-noMore at p [] = ok p []
-noMore at p (b ∷ r) = refused 13 at
+-- after the last track: "1 to 7 left bytes, whatever they are, are 2, a further MTrk is 13, fitting or not, and another chunk that
+-- doesn't fit is 2, each at its first byte"; the chunks that are passed over. n is more than there are (it never shows: pass-fuel)
+unfoldable pub passOver : ℕ → ℕ → List ℕ → Outcome (List Chunk)
+passOver zero at l = refused 2 at
+passOver (suc n) at [] = ok [] []
+passOver (suc n) at (b ∷ l) =
+    andThen (readHead at (b ∷ l)) (λ h r.
+    check (not (eqb (h .tag) trackTag)) 13 at
+    (check (leb (h .size) (length r)) 2 at
+    (andThen (passOver n (at + 8 + h .size) (drop (h .size) r)) (λ cs q. ok (record { tag = h .tag; holds = take (h .size) r } ∷ cs) q))))
+
+-- nothing but such chunks
+unfoldable pub readBehind : ℕ → List ℕ → Outcome (List Chunk)
+readBehind at l = passOver (suc (length l)) at l
 
 -- a file of any length
 unfoldable pub readPiece : List ℕ → Outcome Piece
 readPiece f =
     andThen (readHeader f) (λ h l.
     andThen (readTracks (h .count) (length f - length l) l) (λ ts r.
-    noMore (length f - length r) (record { format = h .format; division = h .division; tracks = ts }) r))
+    andThen (readBehind (length f - length r) r) (λ cs q. ok (record { format = h .format; division = h .division; tracks = ts }) q)))
 
 -- "file over 1,048,576 bytes"
 abbrev pub fileLimit : ℕ

@@ -6,13 +6,13 @@ use Rattle.event.specs.Outcome.{refused}
 use Rattle.smf.specs.Reader.{readFile}
 
 -- a file, and the number and place of its refusal
-pub record Slip : Type 0 where
+pub record RefusedFile : Type 0 where
   pub file : List ℕ
   pub number : ℕ
   pub place : ℕ
 
 -- each file of the list is so refused
-unfoldable pub AllRefused : List Slip → Type 0
+unfoldable pub AllRefused : List RefusedFile → Type 0
 AllRefused [] = Unit {0}
 AllRefused (x ∷ xs) = (readFile (x .file) ≡ refused (x .number) (x .place)) × AllRefused xs
 
@@ -40,7 +40,7 @@ pastEnd =
     ∷ 0x00 ∷ 0xFF ∷ 0x2F ∷ 0x00 ∷ 0x00 ∷ []
 
 -- the table
-abbrev pub slips : List Slip
+abbrev pub slips : List RefusedFile
 slips =
     record { file = overMeta; number = 8; place = 30 }
     ∷ record { file = intoNext; number = 8; place = 38 }

@@ -5,6 +5,7 @@ ghost use Rattle.smf.specs.Reader.{countOk, divisionOk, readHeader};
 ghost use Rattle.smf.specs.Step.{headerStep};
 ghost use Rattle.smf.specs.declared.HeaderStep.the-variants.{BadHeader};
 use super::Division;
+use super::HEADER_TAG;
 use super::HeaderStep;
 use event::number::four_byte_number;
 use event::number::two_byte_number;
@@ -30,30 +31,32 @@ fn division_ok(division: u32) -> bool
     division <= 32767
 }
 
-fn bad(place: usize) -> HeaderStep
-    ensures { λ r. ⌜ r ≡ BadHeader 3 place ⌝ }
+fn bad(number: u8, place: usize) -> HeaderStep
+    ensures { λ r. ⌜ r ≡ BadHeader number place ⌝ }
 {
-    HeaderStep::BadHeader { number: 3, place }
+    HeaderStep::BadHeader { number, place }
 }
 
 pub fn read_header(file: &[u8]) -> HeaderStep
     ensures { λ r. ⌜ r ≡ headerStep (length (now (file .entry))) (readHeader (now (file .entry))) ⌝ }
 {
     if file.len() < 14 {
-        return HeaderStep::BadHeader {
-            number: 2,
-            place: 0,
-        };
+        return bad(2, 0);
     }
-    if four_byte_number(file, 0) != 0x4D546864 {
-        return bad(0);
+    if four_byte_number(file, 0) != HEADER_TAG {
+        return bad(3, 0);
     }
-    if four_byte_number(file, 4) != 6 {
-        return bad(4);
+    let size = four_byte_number(file, 4);
+    if size < 6 {
+        return bad(3, 4);
+    }
+    let len = size as usize;
+    if file.len() - 8 < len {
+        return bad(2, 0);
     }
     let format = two_byte_number(file, 8);
     if 2 < format {
-        return bad(8);
+        return bad(3, 8);
     }
     let count = two_byte_number(file, 10);
     if count_ok(format, count) {
@@ -63,10 +66,10 @@ pub fn read_header(file: &[u8]) -> HeaderStep
                 format,
                 count,
                 division: Division(division),
-                next: 14,
+                next: 8 + len,
             };
         }
-        return bad(12);
+        return bad(3, 12);
     }
-    bad(10)
+    bad(3, 10)
 }

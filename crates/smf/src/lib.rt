@@ -7,6 +7,11 @@ pub mod track; // track.rt: a track's chunk and its events
 pub mod check; // check.rt: checking a file
 pub mod list; // list.rt: listing the tracks
 
+// The tag MThd as a number.
+pub const HEADER_TAG: u32 = 0x4D546864;
+// The tag MTrk.
+pub const TRACK_TAG: u32 = 0x4D54726B;
+
 // What every operation answers: a refusal's number and place, or 0, 0 and the length written.
 pub struct Answer {
     pub number: u8,

@@ -4,44 +4,43 @@ ghost use Prim.Native.Nat.{_+_, _≤_, _<_, _^_};
 ghost use lib.ListN.{length, drop};
 ghost use Rattle.smf.specs.Reader.{readAll, readChunk, readTrack};
 ghost use Rattle.smf.specs.Step.{chunkStep, walkStep, trackStep};
+ghost use Rattle.smf.specs.declared.ChunkStep.the-variants.{BadChunk};
 use super::ChunkStep;
+use super::TRACK_TAG;
 use super::TrackStep;
 use super::WalkStep;
 use event::number::four_byte_number;
 
-// The chunk of a track at a place: where its events begin, and where they end.
-pub fn next_track(file: &[u8], at: usize) -> ChunkStep
-    ensures { λ r. ⌜ r ≡ chunkStep (length (now (file .entry))) (readChunk at (drop at (now (file .entry)))) ⌝ }
+// 2: the chunk at the place is not whole.
+fn cut(place: usize) -> ChunkStep
+    ensures { λ r. ⌜ r ≡ BadChunk 2 place ⌝ }
 {
-    if file.len() < 8 {
-        return ChunkStep::BadChunk {
-            number: 2,
-            place: at,
-        };
-    }
-    if file.len() - 8 < at {
-        return ChunkStep::BadChunk {
-            number: 2,
-            place: at,
-        };
-    }
-    if four_byte_number(file, at) != 0x4D54726B {
-        return ChunkStep::BadChunk {
-            number: 4,
-            place: at,
-        };
-    }
-    let start = at + 8;
-    let len = four_byte_number(file, at + 4) as usize;
-    if file.len() - start < len {
-        return ChunkStep::BadChunk {
-            number: 2,
-            place: at,
-        };
-    }
-    ChunkStep::Body {
-        start,
-        end: start + len,
+    ChunkStep::BadChunk { number: 2, place }
+}
+
+// The chunk of the next track from a place on, past chunks with other tags: where its events begin,
+// and where they end.
+pub fn next_track(file: &[u8], from: usize) -> ChunkStep
+    ensures { λ r. ⌜ r ≡ chunkStep (length (now (file .entry))) (readChunk from (drop from (now (file .entry)))) ⌝ }
+{
+    let mut at = from;
+    loop {
+        if file.len() < 8 {
+            return cut(at);
+        }
+        if file.len() - 8 < at {
+            return cut(at);
+        }
+        let start = at + 8;
+        let len = four_byte_number(file, at + 4) as usize;
+        if file.len() - start < len {
+            return cut(at);
+        }
+        let end = start + len;
+        if four_byte_number(file, at) == TRACK_TAG {
+            return ChunkStep::Body { start, end };
+        }
+        at = end;
     }
 }
 

@@ -1,7 +1,7 @@
 -- Writing a file's own tracks and the whole file again, and the answers of tidying.
 use mathlib.Core.Path.{_≡_, refl, sym, ap, ap₂, subst, _∙_}
 use Prim.Native.Nat.{ℕ, _-_, _*_, _<_, _≤_}
-use mathlib.Core.List.{List, [], _++_}
+use mathlib.Core.List.{List, [], _++_, append-nil}
 use native.Mathlib.Omega.{arith}
 use lib.ListN.{length, take, drop, length-append}
 use lib.Seq.{sets}
@@ -15,7 +15,8 @@ use Rattle.event_write.proofs.WriteLaws.{put-whole, then}
 use Rattle.event_write.proofs.PatchLaws.{patch}
 use Rattle.event.proofs.BytesLaws.{length-bigEndian}
 use Rattle.smf.specs.Piece.{Piece}
-use Rattle.smf.specs.Layout.{trackTag, layHeader, layTracks, layPiece}
+use Rattle.smf.specs.Chunk.{trackTag}
+use Rattle.smf.specs.Layout.{layHeader, layChunks, layTracks, layPiece}
 use Rattle.smf.specs.Manner.{spellTracks, spelling, fileOf}
 use Rattle.smf.specs.Reader.{readAll, readHeader, fileLimit, readFile}
 use Rattle.smf.specs.Answer.{success, refusal, roomNeeded, verdict}
@@ -39,7 +40,7 @@ TracksLeft m s left at = tracksIn m (valueOr [] (R s left at))
 
 pub track-left : (m : Manner) (s : List ℕ) (left n at a b : ℕ) → TrackTurn s left n at a b
     → TracksLeft m s left at ≡ trackIn m (valueOr [] (readAll 0 0 0 (take (b - a) (drop a s)))) ++ TracksLeft m s n b
-unfolding layTracks spellTracks
+unfolding layTracks spellTracks layChunks
 track-left m s left n at a b turn = ap (tracksIn m) (turn .all)
 
 pub no-tracks-left : (m : Manner) (s : List ℕ) (left at : ℕ) → left ≤ 0 → TracksLeft m s left at ≡ []
@@ -55,15 +56,15 @@ tracks-small m s left at bs h =
 
 -- the bytes of the file, as the code writes them
 pub file-bytes : (m : Manner) (s : List ℕ) (a b : ℕ) (d : Division) (n : ℕ) → Bytes s → headerStep (length s) (readHeader s) ≡ Fields a b d n → Accepted s b n
-    → fileOf m (pieceRead s) ≡ layHeader a b (record { pulses = d .0 }) (TracksLeft m s b n)
-unfolding fileOf layPiece spelling valueOr
+    → fileOf m (pieceRead s) ≡ layHeader a b (record { pulses = d .0 }) [] (TracksLeft m s b n)
+unfolding fileOf layPiece spelling valueOr layChunks
 file-bytes m s a b d n bs e there =
     let p = there .piece in
     let head = headed s a b d n bs e there in
-    let tracks : tracksIn m (p .tracks) ≡ TracksLeft m s b n = ap (λ z. tracksIn m (valueOr [] z)) (sym (there .tracks)) in
-    ap (λ z. layHeader (z .format) (length (z .tracks)) (z .division) (tracksIn m (z .tracks))) (head .same)
-    ∙ ap₂ (λ x y. layHeader x y (p .division) (tracksIn m (p .tracks))) (head .format) (there .count)
-    ∙ ap₂ (layHeader a b) (head .division) tracks
+    let tracks : tracksIn m (p .tracks) ++ [] ≡ TracksLeft m s b n = append-nil (tracksIn m (p .tracks)) ∙ ap (λ z. tracksIn m (valueOr [] z)) (sym (there .tracks)) in
+    ap (λ z. layHeader (z .format) (length (z .tracks)) (z .division) [] (tracksIn m (z .tracks) ++ [])) (head .same)
+    ∙ ap₂ (λ x y. layHeader x y (p .division) [] (tracksIn m (p .tracks) ++ [])) (head .format) (there .count)
+    ∙ ap₂ (λ x y. layHeader a b x [] y) (head .division) tracks
 
 -- ---- the answers of what writes these bytes, measured to be n
 

@@ -23,7 +23,9 @@ use event_write::bytes::put_four;
 use event_write::bytes::put_two;
 use smf::Answer;
 use smf::ChunkStep;
+use smf::HEADER_TAG;
 use smf::HeaderStep;
+use smf::TRACK_TAG;
 
 // An event of a track's body, with its data; force is the status in force before it.
 pub fn put_event(
@@ -94,7 +96,7 @@ fn put_track(out: &mut [u8], at: usize, body: &[u8], short: bool) -> usize
     requires { ⌜ at < 2 ^ 39 ⌝ ∗ ⌜ length (now body) ≤ 1048576 ⌝ ∗ ⌜ Readable (readAll 0 0 0 (now body)) ⌝ }
     ensures { λ r. ⌜ Written (now (out .entry)) at (trackIn (mannerOf short) (valueOr [] (readAll 0 0 0 (now (body .entry))))) (now (out .exit)) r ⌝ }
 {
-    let p = put_four(out, at, 0x4D54726B);
+    let p = put_four(out, at, TRACK_TAG);
     let q = put_four(out, p, 0);
     let end = put_events(out, q, body, short);
     let size = (end - q) as u32;
@@ -146,7 +148,7 @@ fn put_file(out: &mut [u8], file: &[u8], short: bool) -> usize
             next,
         } => {
             let pulses = division.0;
-            let a = put_four(out, 0, 0x4D546864);
+            let a = put_four(out, 0, HEADER_TAG);
             let b = put_four(out, a, 6);
             let c = put_two(out, b, format);
             let d = put_two(out, c, count);

@@ -26,7 +26,7 @@ rowOf at time status (Stop number) = record { place = at; time = time; status = 
 
 -- a file of format 0 with the one track
 abbrev pub fileIn : ℕ → List Event → List ℕ
-fileIn pulses es = layHeader 0 1 (record { pulses = pulses }) (trackIn short es)
+fileIn pulses es = layHeader 0 1 (record { pulses = pulses }) [] (trackIn short es)
 
 -- ---- what the functions of the merge say of so many tracks of the file f from the place first on
 

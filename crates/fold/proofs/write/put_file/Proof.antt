@@ -1,5 +1,6 @@
 use Rattle.event.proofs.BytesLaws.{length-bigEndian}
-use Rattle.smf.specs.Layout.{headerTag, layHeader, layDivision}
+use Rattle.smf.specs.Chunk.{headerTag}
+use Rattle.smf.specs.Layout.{layHeader, layDivision}
 use Rattle.event_write.proofs.WriteLaws.{then}
 use native.Mathlib.Omega.{arith}
 use borrow.Author.Needs.{needs}

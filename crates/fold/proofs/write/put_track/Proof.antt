@@ -1,6 +1,7 @@
 use Rattle.event.proofs.BytesLaws.{bytes-of, length-bigEndian}
 use lib.ListN.{length-drop}
-use Rattle.smf.specs.Layout.{trackTag, layTrack}
+use Rattle.smf.specs.Chunk.{trackTag}
+use Rattle.smf.specs.Layout.{layChunk, layTrack}
 use Rattle.smf_write.proofs.FileLaws.{track-written}
 use Rattle.fold.proofs.MergeLaws.{Whole, whole-small}
 use native.Mathlib.Omega.{arith}
@@ -45,7 +46,7 @@ same-length-4 : tie.Need-same-length-4
 same-length-4 c = search needs
 
 returns : tie.Need-returns
-unfolding layTrack
+unfolding layTrack layChunk
 returns c = let a = c .before .before .before .before .before .before .before .before .before .before .before .before .before .before .before .before .before .before .before .before .before .before .before .before .before .before .before .before .before .before .args in let m = c .before .before .before .before .before .before .before .before .before .before .before .before .merge .ensures in
     (track-written (Whole (a .file .now) (a .count) (a .first)) (c .before .before .before .before .before .before .before .before .before .before .before .before .before .before .before .before .before .before .before .before .before .before .before .put-four .ensures) (c .before .before .before .before .before .before .before .before .before .before .before .before .before .before .before .before .before .before .before .put-four2 .ensures) (m .0) (c .before .before .put-four3 .ensures), m .1)
 

@@ -2,7 +2,8 @@ use mathlib.Core.List.{append-nil}
 use Rattle.event.specs.Bytes.{bigEndian}
 use Rattle.event.proofs.BytesLaws.{length-bigEndian}
 use Rattle.event_write.proofs.WriteLaws.{then}
-use Rattle.smf.specs.Layout.{headerTag, layHeader, layDivision}
+use Rattle.smf.specs.Chunk.{headerTag}
+use Rattle.smf.specs.Layout.{layHeader, layDivision}
 use native.Mathlib.Omega.{arith}
 use borrow.Author.Needs.{needs}
 use Rattle.midicsv_read.proofs.order.put_header.Statement.{statement}

@@ -1,7 +1,7 @@
 use mathlib.Core.List.{[]}
 use borrow.Author.Tests.{not-true, not-false}
 use Rattle.event.proofs.BytesLaws.{length-bigEndian}
-use Rattle.smf.specs.Layout.{trackTag}
+use Rattle.smf.specs.Chunk.{trackTag}
 use Rattle.midicsv_read.proofs.TakeLaws.{start-phase, start-full, start-unmarked, start-moved}
 use native.Mathlib.Omega.{arith}
 use mathlib.Core.Path.{sym, _∙_}

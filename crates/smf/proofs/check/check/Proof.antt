@@ -1,8 +1,8 @@
 use Rattle.event.proofs.BytesLaws.{bytes-of}
 use Rattle.smf.proofs.DemandLaws.{judged}
-use Rattle.smf.proofs.VerdictLaws.{head-at, file-long, file-head, file-tracks, file-more, file-fine}
+use Rattle.smf.proofs.VerdictLaws.{head-at, file-long, file-head, file-tracks, file-behind}
 use native.Mathlib.Omega.{arith}
-use mathlib.Core.Path.{sym, _∙_}
+use mathlib.Core.Path.{_≡_, sym, _∙_}
 use borrow.Author.Needs.{needs}
 use Rattle.smf.proofs.check.check.Statement.{statement}
 use Rattle.smf.proofs.check.check.Tie as tie
@@ -43,41 +43,30 @@ refusal-requires-3 c κs = search needs
 enum-known-end : tie.Need-enum-known-end
 enum-known-end c = search needs
 
-refusal-requires-4 : tie.Need-refusal-requires-4
-refusal-requires-4 c κs = search needs
+after-tracks-requires : tie.Need-after-tracks-requires
+after-tracks-requires c κs = search needs
 
 returns-2 : tie.Need-returns-2
-returns-2 c = let s = c .before .before .before .before .before .before .before .before .before .before .before .before .args .file .now in
-    let bytes = bytes-of s (λ i. omega (arith, c .before .before .before .before .before .before .before .before .before .before .before .shared-slice-known .given i)) in
-    let g = c .before .before .before .before .before .before .before .format .given in
-    let came = sym (c .before .before .before .before .before .before .before .before .before .read-header .ensures) ∙ g .1 in
-    let k = c .before .before .before .end .given in
-    judged s _ bytes (c .refusal4 .ensures ∙ file-more s (c .before .before .before .before .before .before .before .before .before .before .if1 .left) bytes (g .0 .0) (g .0 .1 .0) (g .0 .1 .1 .0) (g .0 .1 .1 .1 .0) came (k .0 .0) (sym (c .before .before .before .before .before .read-tracks .ensures) ∙ k .1) (c .before .if2 .taken))
-
-success-requires : tie.Need-success-requires
-success-requires c κs = search needs
-
-returns-3 : tie.Need-returns-3
-returns-3 c = let s = c .before .before .before .before .before .before .before .args .file .now in
+returns-2 c = let s = c .before .before .before .before .before .before .before .args .file .now in
     let bytes = bytes-of s (λ i. omega (arith, c .before .before .before .before .before .before .shared-slice-known .given i)) in
     let k = c .before .before .number .given in
     judged s _ bytes (c .refusal2 .ensures ∙ file-head s (c .before .before .before .before .before .if1 .left) (k .0 .0) (k .0 .1 .0) (sym (c .before .before .before .before .read-header .ensures) ∙ k .1))
 
-returns-4 : tie.Need-returns-4
-returns-4 c = let s = c .before .before .before .before .before .before .before .before .before .before .before .args .file .now in
+returns-3 : tie.Need-returns-3
+returns-3 c = let s = c .before .before .before .before .before .before .before .before .before .before .before .args .file .now in
     let bytes = bytes-of s (λ i. omega (arith, c .before .before .before .before .before .before .before .before .before .before .shared-slice-known .given i)) in
     let g = c .before .before .before .before .before .before .format .given in
     let came = sym (c .before .before .before .before .before .before .before .before .read-header .ensures) ∙ g .1 in
     let k = c .before .before .number2 .given in
     judged s _ bytes (c .refusal3 .ensures ∙ file-tracks s (c .before .before .before .before .before .before .before .before .before .if1 .left) bytes (g .0 .0) (g .0 .1 .0) (g .0 .1 .1 .0) (g .0 .1 .1 .1 .0) came (k .0 .0) (k .0 .1 .0) (sym (c .before .before .before .before .read-tracks .ensures) ∙ k .1))
 
-returns-5 : tie.Need-returns-5
-returns-5 c = let s = c .before .before .before .before .before .before .before .before .before .before .before .before .args .file .now in
-    let bytes = bytes-of s (λ i. omega (arith, c .before .before .before .before .before .before .before .before .before .before .before .shared-slice-known .given i)) in
-    let g = c .before .before .before .before .before .before .before .format .given in
-    let came = sym (c .before .before .before .before .before .before .before .before .before .read-header .ensures) ∙ g .1 in
-    let k = c .before .before .before .end .given in
-    judged s _ bytes (c .success .ensures ∙ file-fine s (c .before .before .before .before .before .before .before .before .before .before .if1 .left) bytes (g .0 .0) (g .0 .1 .0) (g .0 .1 .1 .0) (g .0 .1 .1 .1 .0) came (k .0 .0) (sym (c .before .before .before .before .before .read-tracks .ensures) ∙ k .1) (c .before .if2 .left))
+returns-4 : tie.Need-returns-4
+returns-4 c = let s = c .before .before .before .before .before .before .before .before .before .before .before .args .file .now in
+    let bytes = bytes-of s (λ i. omega (arith, c .before .before .before .before .before .before .before .before .before .before .shared-slice-known .given i)) in
+    let g = c .before .before .before .before .before .before .format .given in
+    let came = sym (c .before .before .before .before .before .before .before .before .read-header .ensures) ∙ g .1 in
+    let k = c .before .before .end .given in
+    judged s _ bytes (c .after-tracks .ensures ∙ file-behind s (c .before .before .before .before .before .before .before .before .before .if1 .left) bytes (g .0 .0) (g .0 .1 .0) (g .0 .1 .1 .0) (g .0 .1 .1 .1 .0) came (k .0 .0) (sym (c .before .before .before .before .read-tracks .ensures) ∙ k .1))
 
 pub check-spec : {M : Type 1} → statement M
 check-spec =
@@ -93,9 +82,7 @@ check-spec =
     enum-known-number-2
     refusal-requires-3
     enum-known-end
-    refusal-requires-4
+    after-tracks-requires
     returns-2
-    success-requires
     returns-3
-    returns-4
-    returns-5)
+    returns-4)

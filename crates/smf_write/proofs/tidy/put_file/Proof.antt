@@ -1,7 +1,8 @@
 use Rattle.event.proofs.BytesLaws.{bytes-of, length-bigEndian}
 use Rattle.event_write.proofs.WriteLaws.{then}
 use Rattle.event_write.specs.Head.{mannerOf}
-use Rattle.smf.specs.Layout.{headerTag, layHeader, layDivision}
+use Rattle.smf.specs.Chunk.{headerTag}
+use Rattle.smf.specs.Layout.{layHeader, layDivision}
 use Rattle.smf.proofs.VerdictLaws.{head-at}
 use Rattle.smf.proofs.ListLaws.{accepted-readable}
 use Rattle.smf.proofs.AcceptedLaws.{header-there, file-accepted}

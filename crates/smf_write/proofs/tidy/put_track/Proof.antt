@@ -1,6 +1,7 @@
 use Rattle.event.proofs.BytesLaws.{bytes-of, length-bigEndian}
 use Rattle.event_write.specs.Head.{mannerOf}
-use Rattle.smf.specs.Layout.{trackTag, layTrack}
+use Rattle.smf.specs.Chunk.{trackTag}
+use Rattle.smf.specs.Layout.{layChunk, layTrack}
 use Rattle.smf_write.proofs.TidyLaws.{Left, left-small}
 use Rattle.smf_write.proofs.FileLaws.{track-written}
 use native.Mathlib.Omega.{arith}
@@ -32,7 +33,7 @@ same-length : tie.Need-same-length
 same-length c = search needs
 
 returns : tie.Need-returns
-unfolding layTrack
+unfolding layTrack layChunk
 returns c = let a = c .before .before .before .before .before .before .before .before .before .before .before .before .before .before .before .before .before .before .args in
     track-written (Left (mannerOf (a .short)) (a .body .now) 0 0 0) (c .before .before .before .before .before .before .before .before .before .before .before .before .before .before .put-four .ensures) (c .before .before .before .before .before .before .before .before .before .before .put-four2 .ensures) (c .before .before .before .before .before .before .put-events .ensures) (c .before .before .put-four3 .ensures)
 
