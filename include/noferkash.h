@@ -5,7 +5,10 @@
  *
  * Every answer is one number of 64 bits, number * 2^56 + place * 2^28 + length,
  * which the macros below take apart. The piece of a file or text is what it says:
- * the format, the division, and the events of each track with their Times.
+ * the format, the division, and the events of each track with their Times. In a file
+ * a track is a chunk with the tag MTrk. Chunks with other tags, and what a header has
+ * behind its first 14 bytes, are passed over: they are no part of the piece, and no
+ * function writes them.
  *
  * The caller must ensure:
  * - a pointer is valid for as many bytes as the length beside it says; where that
@@ -28,9 +31,9 @@
 #include <stdint.h>
 
 /* Of this header. noferkash_version() has that of the library. */
-#define NOFERKASH_VERSION "0.4.0"
+#define NOFERKASH_VERSION "0.5.0"
 #define NOFERKASH_VERSION_MAJOR 0
-#define NOFERKASH_VERSION_MINOR 4
+#define NOFERKASH_VERSION_MINOR 5
 #define NOFERKASH_VERSION_PATCH 0
 
 /* The largest file, read or written, the largest text read and the largest table, in bytes. */
@@ -50,15 +53,15 @@ extern "C" {
 #endif
 
 /* After each semicolon stands the place; "chunk" and "event" are the first byte
- * of a track's chunk and of an event's delta. */
+ * of a chunk, or where one must begin, and of an event's delta. */
 enum noferkash_number {
     NOFERKASH_OK = 0,
 
     /* Of files; places are bytes. */
     NOFERKASH_FILE_TOO_LONG = 1,           /* over 1,048,576 bytes; 0 */
-    NOFERKASH_FILE_CUT_SHORT = 2,          /* header, track start or track past the end; 0 or chunk */
+    NOFERKASH_FILE_CUT_SHORT = 2,          /* header, chunk start or chunk past the end; 0 or chunk */
     NOFERKASH_BAD_HEADER = 3,              /* tag, length, format, tracks, division; 0, 4, 8, 10, 12 */
-    NOFERKASH_BAD_TRACK_TAG = 4,           /* not MTrk; chunk */
+    /* 4 was a chunk of another kind, up to version 0.4. It is never given again. */
     NOFERKASH_VARIABLE_TOO_LONG = 5,       /* variable-length number over four bytes; event */
     NOFERKASH_EVENT_CUT_SHORT = 6,         /* needs a byte past the track's end, or no End_track came; event */
     NOFERKASH_TIME_TOO_GREAT = 7,          /* over 4,294,967,295; event */
@@ -67,7 +70,7 @@ enum noferkash_number {
     NOFERKASH_BAD_META_LENGTH = 10,        /* of a meta event of fixed length; event */
     NOFERKASH_BAD_META_VALUE = 11,         /* out of range; event */
     NOFERKASH_BYTES_AFTER_END_TRACK = 12,  /* in the same track; first such byte */
-    NOFERKASH_BYTES_AFTER_LAST_TRACK = 13, /* first such byte */
+    NOFERKASH_BYTES_AFTER_LAST_TRACK = 13, /* a track more than the header counts; chunk */
 
     /* Of the buffer `out`; place 0, and the length needed. */
     NOFERKASH_ROOM_TOO_SMALL = 14,
@@ -200,7 +203,7 @@ uint64_t noferkash_sheet_to_text(const uint8_t *saved, size_t saved_len, uint8_t
  * track"; for every other number "unknown refusal number". */
 const char *noferkash_refusal_words(int number);
 
-/* The version of the library, as "0.4.0". */
+/* The version of the library, as "0.5.0". */
 const char *noferkash_version(void);
 
 #ifdef __cplusplus

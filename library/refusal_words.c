@@ -5,10 +5,10 @@ static const char *const words[] = {
     [NOFERKASH_OK] = "no refusal",
 
     [NOFERKASH_FILE_TOO_LONG] = "file over 1,048,576 bytes",
-    [NOFERKASH_FILE_CUT_SHORT] = "file cut short: it ends before its header or a track is whole",
+    [NOFERKASH_FILE_CUT_SHORT] = "file cut short: it ends before its header, a track or "
+                                 "another chunk is whole",
     [NOFERKASH_BAD_HEADER] = "header tag, length, format, number of tracks or division "
                              "not permitted",
-    [NOFERKASH_BAD_TRACK_TAG] = "track does not begin with MTrk",
     [NOFERKASH_VARIABLE_TOO_LONG] = "variable-length number over four bytes",
     [NOFERKASH_EVENT_CUT_SHORT] = "track ends inside an event or before End_track",
     [NOFERKASH_TIME_TOO_GREAT] = "Time over 4,294,967,295",
@@ -17,7 +17,7 @@ static const char *const words[] = {
     [NOFERKASH_BAD_META_LENGTH] = "meta event of wrong length",
     [NOFERKASH_BAD_META_VALUE] = "value of a meta event out of range",
     [NOFERKASH_BYTES_AFTER_END_TRACK] = "bytes after End_track in the track",
-    [NOFERKASH_BYTES_AFTER_LAST_TRACK] = "bytes after the last track",
+    [NOFERKASH_BYTES_AFTER_LAST_TRACK] = "a track more than the header counts",
 
     [NOFERKASH_ROOM_TOO_SMALL] = "buffer too small",
 

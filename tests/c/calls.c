@@ -5,7 +5,7 @@
 #include <stdlib.h>
 #include <string.h>
 
-#include "cases.h"
+#include "text_cases.h"
 
 static unsigned count, failed;
 
@@ -97,6 +97,14 @@ static void try_written(const struct operation *operation, const char *what, con
     report(operation->name, room, what, answer, answer_due, good);
 }
 
+/* The length of a chunk, which is under 2^24. */
+static void put_length(uint8_t *at, size_t length)
+{
+    at[1] = (uint8_t)(length >> 16);
+    at[2] = (uint8_t)(length >> 8);
+    at[3] = (uint8_t)length;
+}
+
 /* A good file of `length` bytes: one system exclusive event fills it. */
 static void fill(uint8_t *file, size_t length)
 {
@@ -104,9 +112,7 @@ static void fill(uint8_t *file, size_t length)
 
     memset(file, 0, length);
     memcpy(file, HEADER "MTrk", 18);
-    file[19] = (uint8_t)(body >> 16);
-    file[20] = (uint8_t)(body >> 8);
-    file[21] = (uint8_t)body;
+    put_length(file + 18, body);
     file[23] = 0xF0;
     file[24] = 0x80;
     file[25] = (uint8_t)(data >> 14 | 0x80);
@@ -139,7 +145,13 @@ static void check_cases(uint8_t *file)
     file[LIMIT - 1] = 1;
     try_case("fault in the last byte", file, LIMIT, NOFERKASH_BAD_META_LENGTH, LIMIT - 4);
     fill(file, LIMIT - 1);
-    try_case("one byte more, the limit", file, LIMIT, NOFERKASH_BYTES_AFTER_LAST_TRACK, LIMIT - 1);
+    try_case("one byte more, the limit", file, LIMIT, NOFERKASH_FILE_CUT_SHORT, LIMIT - 1);
+    memcpy(file + 14, "XFIH", 4);
+    try_case("another chunk in place of the track", file, LIMIT - 1, NOFERKASH_FILE_CUT_SHORT,
+             LIMIT - 1);
+    put_length(file + 18, LIMIT - 34);
+    memcpy(file + LIMIT - 12, CHUNK("\4", END), 12);
+    try_case("another chunk before the track, the limit", file, LIMIT, NOFERKASH_OK, 0);
     fill(file, LIMIT + 1);
     try_case("good but one over the limit", file, LIMIT + 1, NOFERKASH_FILE_TOO_LONG, 0);
 }
@@ -318,9 +330,7 @@ static size_t filled_and_text(uint8_t *file, char *text, size_t length)
 {
     fill(file, length + 1);
     memmove(file + 24, file + 25, length - 24);
-    file[19] = (uint8_t)((length - 22) >> 16);
-    file[20] = (uint8_t)((length - 22) >> 8);
-    file[21] = (uint8_t)(length - 22);
+    put_length(file + 18, length - 22);
     return text_of_filled(text, length + 1);
 }
 

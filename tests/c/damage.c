@@ -29,17 +29,22 @@ void splice(struct input *input, size_t at, size_t out, const void *bytes, size_
     input->length = input->length - out + in;
 }
 
-uint32_t big_endian(const uint8_t *at)
+uint32_t four_bytes(const uint8_t *at)
 {
     return (uint32_t)at[0] << 24 | (uint32_t)at[1] << 16 | (uint32_t)at[2] << 8 | at[3];
 }
 
+size_t first_chunk(const struct input *file)
+{
+    return file->length < 14 ? 14 : 8 + (size_t)four_bytes(file->at + 4);
+}
+
 size_t chunk_of(const struct input *file, size_t place, size_t *end)
 {
-    size_t start = 14;
+    size_t start = first_chunk(file);
 
     while (start + 8 <= file->length) {
-        *end = start + 8 + big_endian(file->at + start + 4);
+        *end = start + 8 + four_bytes(file->at + start + 4);
         if (place <= *end)
             return start;
         start = *end;
@@ -49,7 +54,7 @@ size_t chunk_of(const struct input *file, size_t place, size_t *end)
 
 void lengthen(struct input *file, size_t start, size_t more)
 {
-    uint32_t length = big_endian(file->at + start + 4) + (uint32_t)more;
+    uint32_t length = four_bytes(file->at + start + 4) + (uint32_t)more;
     size_t i;
 
     for (i = 0; i < 4; i++)
@@ -75,50 +80,84 @@ static void insert_events(struct input *file)
     }
 }
 
+/* Before the chunk that holds the place, or at the end of the file: a chunk of another kind, or a
+ * track that the header may not count. It may be too long. */
+static void insert_chunk(struct input *file, size_t place)
+{
+    static const char tags[][5] = {"XFIH", "MThd", "data", "mtrk", "MTrl", "\xFF\n M", "MTrk"};
+    static const char content[] = "\0\x90\x3C\x80MTrk\0\0\0\4\0\xFF\x2F\0MThd\0\0\0\6\0\1";
+    char chunk[8 + sizeof content] = {0};
+    size_t end, at = chunk_of(file, place, &end), length = below(sizeof content);
+
+    memcpy(chunk, tags[below(sizeof tags / sizeof tags[0])], 4);
+    memcpy(chunk + 8, content, length);
+    chunk[7] = (char)(length + (below(4) == 0 ? below(8) : 0));
+    splice(file, at == 0 || below(3) == 0 ? file->length : at, 0, chunk, 8 + length);
+}
+
+/* Makes the header longer, most often by bytes that are there. */
+static void lengthen_header(struct input *file)
+{
+    static const char bytes[] = "MTrk\0\0\0\4\0\xFF\x2F\0";
+    size_t more = 1 + below(sizeof bytes - 1);
+
+    if (file->length < 14)
+        return;
+    if (below(4) > 0)
+        splice(file, 14, 0, bytes, more);
+    lengthen(file, 0, more);
+}
+
+/* Changes one chunk: its length, its tag, a byte of either, or cuts the file in it. */
+static void damage_chunk(struct input *file, size_t place, uint8_t byte)
+{
+    size_t end, at = chunk_of(file, place, &end);
+
+    switch (below(4)) {
+    case 0:
+        if (at != 0)
+            lengthen(file, at, below(9) - 4);
+        break;
+    case 1:
+        splice(file, at + below(8), 1, &byte, 1);
+        break;
+    case 2:
+        splice(file, at + below(4), 1, below(2) ? "x" : "\xFF", 1);
+        break;
+    default:
+        if (at != 0 && below(2))
+            file->length = at + below(9) < file->length ? at + below(9) : file->length;
+        break;
+    }
+}
+
 void damage_file(struct input *file)
 {
     static const uint8_t bytes[] = {0,    1,    2,    3,    5,    0x2F, 0x7F, 0x80,
                                     0x81, 0x90, 0xC0, 0xF0, 0xF7, 0xFE, 0xFF};
     uint8_t byte = bytes[below(sizeof bytes)];
-    size_t at = file->length > 0 ? below(file->length) : 0, end;
+    size_t at = file->length > 0 ? below(file->length) : 0, how = below(18);
 
-    switch (below(12)) {
-    case 0:
+    if (how == 0)
         file->length = at;
-        break;
-    case 8:
-        splice(file, file->length, 0, &byte, 1);
-        break;
-    case 1:
+    else if (how == 1)
         splice(file, at, below(4), "", 0);
-        break;
-    case 2:
+    else if (how == 2)
         splice(file, at, 0, &byte, 1);
-        break;
-    case 3:
+    else if (how == 3)
         splice(file, below(14), 1, &byte, 1);
-        break;
-    case 4:
+    else if (how == 4)
         splice(file, at, 1, &byte, 1);
-        break;
-    case 5:
-        at = chunk_of(file, at, &end);
-        if (at != 0)
-            lengthen(file, at, below(9) - 4);
-        break;
-    case 6:
-        at = chunk_of(file, at, &end);
-        splice(file, at + below(8), 1, &byte, 1);
-        break;
-    case 7:
-        at = chunk_of(file, at, &end);
-        if (at != 0 && below(2))
-            file->length = at + below(9) < file->length ? at + below(9) : file->length;
-        break;
-    default:
+    else if (how == 5)
+        splice(file, file->length, 0, &byte, 1);
+    else if (how == 6)
+        lengthen_header(file);
+    else if (how < 10)
+        insert_chunk(file, at);
+    else if (how < 14)
+        damage_chunk(file, at, byte);
+    else
         insert_events(file);
-        break;
-    }
 }
 
 static size_t line_start(const struct input *text, size_t at)

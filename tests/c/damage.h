@@ -20,7 +20,10 @@ size_t below(size_t limit);
 /* Takes bytes out and puts others there, as far as there is room. */
 void splice(struct input *input, size_t at, size_t out, const void *bytes, size_t in);
 
-uint32_t big_endian(const uint8_t *at);
+uint32_t four_bytes(const uint8_t *at);
+
+/* Where the header ends, as it declares. */
+size_t first_chunk(const struct input *file);
 
 /* Where the chunk begins that holds the place or ends there, and its end; 0 if there is none. */
 size_t chunk_of(const struct input *file, size_t place, size_t *end);

@@ -10,23 +10,26 @@
 #include <string.h>
 
 #include "damage.h"
-#include "explain.h"
+#include "explain_fuzz.h"
 #include "fields.h"
 #include "noferkash.h"
 
 #define MOST_INPUTS 64
 
-static struct input inputs[MOST_INPUTS], damaged, mended;
+struct input mended;
+char words[EXPLAIN_ROOM];
+unsigned long mended_count;
+
+static struct input inputs[MOST_INPUTS], damaged;
 static size_t inputs_count;
 static enum read_as read_as;
 static int folds;
 /* What is damaged is a table, which the text was made of. */
 static struct input table;
 static int has_table;
-static char words[EXPLAIN_ROOM];
-static unsigned long refused[256], by_number[256], mended_count, failures;
+static unsigned long refused[256], by_number[256], failures;
 
-static uint64_t answer_to(const struct input *input)
+uint64_t answer_to(const struct input *input)
 {
     static uint8_t room[NOFERKASH_FILE_LIMIT];
 
@@ -37,7 +40,7 @@ static uint64_t answer_to(const struct input *input)
                : noferkash_text_to_file(input->at, input->length, 1, room, sizeof room);
 }
 
-static void fail(const char *what)
+void fail(const char *what)
 {
     failures++;
     printf("FAILED: %s: %s\n", what, words);
@@ -52,9 +55,8 @@ static uint8_t *copy_of(const struct input *input)
     return memcpy(bytes, input->at, input->length);
 }
 
-/* Words for these bytes exactly, in a room of exactly the size: the sanitizer sees each byte too
- * far. */
-static void explain(enum read_as as, const struct input *input, uint64_t answer)
+/* For these bytes exactly, in a room of exactly the size: the sanitizer sees each byte too far. */
+void explain(enum read_as as, const struct input *input, uint64_t answer)
 {
     uint8_t *bytes = copy_of(input), *saved = copy_of(&table);
     char *room = malloc(EXPLAIN_ROOM);
@@ -82,68 +84,11 @@ static void explain(enum read_as as, const struct input *input, uint64_t answer)
         }
 }
 
-/* The words after what was really given. */
-static const char *after_given(void)
+const char *after_given(void)
 {
     const char *semicolon = strncmp(words, "this ", 5) == 0 ? strstr(words, "; ") : NULL;
 
     return semicolon != NULL ? semicolon + 2 : words;
-}
-
-/* The file with so many bytes more in the track, or at its end for a file cut short, is not refused
- * with that number at that place; with one byte less it is. */
-static void mend_file(const struct input *file, uint64_t answer, size_t missing)
-{
-    size_t end = 0, less, start = chunk_of(file, NOFERKASH_PLACE(answer), &end);
-    int in_track = NOFERKASH_NUMBER(answer) == NOFERKASH_EVENT_CUT_SHORT;
-
-    for (less = 0; less < 2 && missing >= less; less++) {
-        size_t more = missing - less, i;
-
-        if (file->length + more > ROOM || (in_track && (start == 0 || end > file->length)))
-            return;
-        mended = *file;
-        for (i = 0; i < more; i++)
-            splice(&mended, in_track ? end : mended.length, 0, "", 1);
-        if (in_track)
-            lengthen(&mended, start, more);
-        mended_count++;
-        if ((answer_to(&mended) == answer) != (less == 1))
-            fail(less == 0 ? "what is missing does not mend it"
-                           : "less than what is missing mends it");
-    }
-}
-
-/* The number of the track at the place of this answer. */
-static unsigned long track_due(const struct input *file, uint64_t answer)
-{
-    int number = NOFERKASH_NUMBER(answer);
-    size_t start = 14, before = 0;
-
-    while (start < NOFERKASH_PLACE(answer) && start + 8 <= file->length) {
-        start += 8 + big_endian(file->at + start + 4);
-        before++;
-    }
-    /* The track begins at the place, or has begun before it. */
-    return before + (number == NOFERKASH_FILE_CUT_SHORT || number == NOFERKASH_BAD_TRACK_TAG);
-}
-
-static void look_at_file(const struct input *file, uint64_t answer)
-{
-    const char *said = after_given(), *needed, *track = strstr(said, "track ");
-    unsigned long due, there;
-
-    if (track != NULL && sscanf(track, "track %lu", &due) == 1 && due != track_due(file, answer))
-        fail("another track");
-
-    /* So small files have no commas in their numbers. */
-    if (sscanf(said, "track %*u ends inside an event: %lu byte", &due) == 1 &&
-        strstr(said, "or more") == NULL && strchr(said, ',') == NULL)
-        mend_file(file, answer, due);
-    needed = strstr(said, " needs ");
-    if (needed != NULL && sscanf(needed, " needs %lu byte%*[s], %lu", &due, &there) == 2 &&
-        strncmp(said, "cut short: track", 16) == 0)
-        mend_file(file, answer, due - there);
 }
 
 /* The first line with this record, or NULL, and what its name ends before. */

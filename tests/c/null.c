@@ -5,7 +5,7 @@
 #include <stdio.h>
 #include <string.h>
 
-#include "cases.h"
+#include "text_cases.h"
 
 static unsigned count, failed;
 static int met[256];
@@ -145,9 +145,11 @@ int main(void) {
     tables();
 
     for (int number = 1; number <= NOFERKASH_PREFIX_OR_PORT; number++) {
-        if ((number <= 14 || number >= 21) && met[number] == 0) {
+        /* 4 is given no more. */
+        int known = number != 4 && (number <= 14 || number >= 21);
+        if (known != (met[number] > 0)) {
             failed++;
-            printf("FAILED: %d was never met\n", number);
+            printf("FAILED: %d was %s\n", number, known ? "never met" : "met");
         }
     }
     if (met[NOFERKASH_TABLE_TOO_LONG] == 0) {

@@ -15,8 +15,8 @@ enum { EXPLAIN_ROOM = 512 };
 /* Writes into `words`, of `room` bytes (at least EXPLAIN_ROOM), the words that
  * stand after "refused N at P: "; 0-terminated, one line, no control bytes. Files and
  * texts are explained here, tables below.
- * `answer` is the library's 64-bit answer, a refusal of 1..13, 21..29, 31..33, 38. It
- * is not trusted: whatever it says, nothing outside the input is read. The time taken
+ * `answer` is the library's 64-bit answer, a refusal of 1..3, 5..13, 21..29, 31..33,
+ * 38. It is not trusted: whatever it says, nothing outside the input is read. The time taken
  * is linear in the input's length. */
 void explain_refusal(enum read_as read_as, const uint8_t *input, size_t length, uint64_t answer,
                      char *words, size_t room);

@@ -33,13 +33,36 @@ enum { MOST_SHOWN = 40, SHOWN_ROOM = MOST_SHOWN + 1 };
 enum { GROUPED_ROOM = 27 };
 const char *grouped(uint64_t number, char shown[GROUPED_ROOM]);
 
+/* "is" or "are", "" or "s", after such a number. */
+const char *are(size_t count);
+const char *plural(size_t count);
+
+/* The least header. */
+enum { HEADER_SIZE = 14 };
+
+uint32_t big_endian(const uint8_t *bytes, size_t length);
+
+/* A chunk. `number` is which track it is, counted from 1, or 0 for a chunk of another
+ * kind; `content` is where its bytes begin behind tag and length. It may pass the
+ * file's end. */
+struct chunk {
+    size_t number, content, end;
+};
+
+/* The track in which an event begins at the place, or that ends there; 0 if there is
+ * none that is whole. */
+int track_round(struct part file, size_t place, struct chunk *track);
+
 /* Each of these adds words, or adds nothing and answers 0 if it has found none. */
 
 /* What was really given, without the semicolon after it. */
 int say_given(struct part input, struct words *words);
 
-/* About 2 to 12 and 31 to 33. */
+/* About 2 to 13 and 31 to 33. */
 int explain_file(struct part file, int number, size_t place, struct words *words);
+
+/* About 2 and 13, for the one above. */
+int explain_chunks(struct part file, int number, size_t place, struct words *words);
 
 /* About 22 to 25: one line alone. */
 int explain_line(struct part text, int number, size_t place, struct words *words);

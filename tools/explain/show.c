@@ -32,6 +32,14 @@ const char *grouped(uint64_t number, char shown[GROUPED_ROOM]) {
     return at;
 }
 
+const char *are(size_t count) {
+    return count == 1 ? "is" : "are";
+}
+
+const char *plural(size_t count) {
+    return count == 1 ? "" : "s";
+}
+
 /* The bytes of the UTF-8 character that begins with this byte, and the range of
  * its second byte, which shuts out what is too long, too great or half of a pair. */
 static size_t character_size(uint8_t first, uint8_t *least, uint8_t *greatest) {
