@@ -90,6 +90,8 @@ fn main() {
     // All rows taken, and one: format 0, where a Channel_prefix may stand.
     with_much_room(b"four_tracks.mid");
     with_much_room(b"one_track.mid");
+    // The two tracks again, with other chunks round them: the places are those in this file.
+    with_much_room(b"other_chunks.mid");
     // Refused for other reasons, in the order in which they are tried: rows and room stay.
     with_much_room(b"after_end_track.mid");
     with_much_room(b"format2.mid");

@@ -44,6 +44,8 @@ fn list_file(path: &[u8]) {
 fn main() {
     list_file(b"example.mid");
     list_file(b"three_tracks.mid");
+    list_file(b"other_chunks.mid");
+    list_file(b"further_track.mid");
     list_file(b"format2.mid");
     list_file(b"five_tracks.mid");
     list_file(b"after_end_track.mid");

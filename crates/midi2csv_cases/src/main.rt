@@ -17,6 +17,8 @@ fn main() {
     convert_file(b"empty.mid");
     convert_file(b"film_division.mid");
     convert_file(b"after_end_track.mid");
+    convert_file(b"other_chunks.mid");
+    convert_file(b"further_track.mid");
     convert_file(b"over_limit.mid");
     convert_file(b"over_room.mid");
     convert_file(b"at_limits.mid");
