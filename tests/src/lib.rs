@@ -6,6 +6,7 @@
 
 #[cfg(feature = "archive")]
 pub mod archive;
+pub mod chunk_coverage;
 pub mod compare;
 pub mod coverage;
 pub mod fast_text;

@@ -20,23 +20,29 @@ pub fn read_with_places(file: &[u8]) -> Result<(Piece, Places), Refusal> {
     if file.len() > FILE_MAX {
         return refuse(Number::FileTooLong, 0);
     }
-    let (format, count, division) = read_header(file)?;
+    let Header { format, count, division, end } = read_header(file)?;
     let (mut tracks, mut places) = (Vec::new(), Vec::new());
-    let mut at = 14;
+    let mut at = end;
     for _ in 0..count {
-        let end = chunk_end(file, at)?;
-        let (track, of_events) = read_track(&file[..end], at + 8)?;
+        let chunk = track_from(file, at)?;
+        let (track, of_events) = read_track(&file[..chunk.end], chunk.at + CHUNK_START)?;
         tracks.push(track);
         places.push(of_events);
-        at = end;
+        at = chunk.end;
     }
-    if at < file.len() {
-        return refuse(Number::AfterLastTrack, at);
-    }
+    no_track_from(file, at)?;
     Ok((Piece { format, division, tracks }, places))
 }
 
-fn read_header(file: &[u8]) -> Result<(Format, usize, Division), Refusal> {
+struct Header {
+    format: Format,
+    count: usize,
+    division: Division,
+    /// Where the first chunk behind the header begins.
+    end: usize,
+}
+
+fn read_header(file: &[u8]) -> Result<Header, Refusal> {
     if file.len() < 14 {
         return refuse(Number::FileCutShort, 0);
     }
@@ -44,8 +50,12 @@ fn read_header(file: &[u8]) -> Result<(Format, usize, Division), Refusal> {
     if file[..4] != *b"MThd" {
         return Err(fault(0));
     }
-    if big_endian(&file[4..8]) != 6 {
+    let length = big_endian(&file[4..8]) as usize;
+    if length < 6 {
         return Err(fault(4));
+    }
+    if length > file.len() - CHUNK_START {
+        return refuse(Number::FileCutShort, 0);
     }
     let format = Format::from_number(big_endian(&file[8..10])).ok_or(fault(8))?;
     let count = big_endian(&file[10..12]) as usize;
@@ -54,23 +64,53 @@ fn read_header(file: &[u8]) -> Result<(Format, usize, Division), Refusal> {
     }
     let division = i16::from_be_bytes([file[12], file[13]]);
     let division = Division::from_signed(division).ok_or(fault(12))?;
-    Ok((format, count, division))
+    Ok(Header { format, count, division, end: CHUNK_START + length })
 }
 
-/// Where the track chunk that begins at `at` ends.
-fn chunk_end(file: &[u8], at: usize) -> Result<usize, Refusal> {
+/// Tag and length.
+const CHUNK_START: usize = 8;
+const TRACK: [u8; 4] = *b"MTrk";
+
+/// A chunk that the file holds whole: from its tag to where it ends.
+struct Chunk {
+    at: usize,
+    end: usize,
+}
+
+/// The chunk that begins at `at`, whatever its tag.
+fn chunk_at(file: &[u8], at: usize) -> Result<Chunk, Refusal> {
     let left = file.len() - at;
-    if left < 8 {
+    if left < CHUNK_START {
         return refuse(Number::FileCutShort, at);
-    }
-    if file[at..at + 4] != *b"MTrk" {
-        return refuse(Number::TrackTag, at);
     }
     let length = big_endian(&file[at + 4..at + 8]) as usize;
-    if length > left - 8 {
+    if length > left - CHUNK_START {
         return refuse(Number::FileCutShort, at);
     }
-    Ok(at + 8 + length)
+    Ok(Chunk { at, end: at + CHUNK_START + length })
+}
+
+/// The first track at or after `at`, where one must come: unknown chunks are passed over.
+fn track_from(file: &[u8], mut at: usize) -> Result<Chunk, Refusal> {
+    loop {
+        let chunk = chunk_at(file, at)?;
+        if file[at..].starts_with(&TRACK) {
+            return Ok(chunk);
+        }
+        at = chunk.end;
+    }
+}
+
+/// From `at`, behind the last track, to the file's end only unknown chunks may stand. A
+/// track there is one too many, whatever its length; but it takes eight bytes to be a chunk.
+fn no_track_from(file: &[u8], mut at: usize) -> Result<(), Refusal> {
+    while at < file.len() {
+        if file.len() - at >= CHUNK_START && file[at..].starts_with(&TRACK) {
+            return refuse(Number::AfterLastTrack, at);
+        }
+        at = chunk_at(file, at)?.end;
+    }
+    Ok(())
 }
 
 /// Reads the events from `at` to the end of `file`, which is the track's end.

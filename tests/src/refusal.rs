@@ -1,13 +1,13 @@
 //! Refusal numbers and answers.
 
 /// The refusal numbers of document 01, those that document 02 adds, and that of tables.
+/// 4, a track's tag that was not MTrk, fell away with Wish 3; its number is not given again.
 #[derive(Clone, Copy, Debug, PartialEq, Eq, PartialOrd, Ord)]
 #[repr(u8)]
 pub enum Number {
     FileTooLong = 1,
     FileCutShort = 2,
     Header = 3,
-    TrackTag = 4,
     VariableTooLong = 5,
     EventCutShort = 6,
     TimeTooGreat = 7,

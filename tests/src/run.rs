@@ -9,6 +9,7 @@ use std::fs;
 use std::ops::Range;
 use std::time::{Duration, Instant};
 
+use crate::chunk_coverage::ChunkCoverage;
 use crate::compare::{Difference, Met, Operation, Room};
 use crate::coverage::Coverage;
 use crate::generate::{Aim, LimitCase, LimitTable, LimitText, Rng};
@@ -24,11 +25,15 @@ const PROGRESS: Duration = Duration::from_secs(60);
 /// The source whose accepted inputs are to hold all that `Coverage` has.
 pub const GENERATED: &str = "generated";
 
+pub type Reader = fn(&[u8]) -> Result<Piece, Refusal>;
+
 /// What one operation answered, source by source.
 pub struct Run<'a> {
     operation: &'a Operation,
     /// Reads what the accepted inputs of `GENERATED` hold, if that is to be seen.
-    read: Option<fn(&[u8]) -> Result<Piece, Refusal>>,
+    read: Option<Reader>,
+    /// What headers and chunks of all inputs were met, if that is to be seen.
+    chunks: Option<ChunkCoverage>,
     sources: Vec<Source>,
     /// Name of each aim, and how often it was met.
     aims: Vec<(String, u64)>,
@@ -74,6 +79,7 @@ impl Run<'_> {
         Run {
             operation,
             read: None,
+            chunks: None,
             sources: Vec::new(),
             aims: Vec::new(),
             differences: 0,
@@ -89,6 +95,11 @@ impl Run<'_> {
         Run { few, ..self }
     }
 
+    /// The same, of files that must meet all that `ChunkCoverage` knows.
+    pub fn of_chunks(self) -> Self {
+        Run { chunks: Some(ChunkCoverage::default()), ..self }
+    }
+
     /// The same, of which differences are only counted.
     pub fn silent(self) -> Self {
         Run { shown: 0, ..self }
@@ -100,7 +111,7 @@ impl Run<'_> {
 
     /// The same, of which the generated inputs that are accepted must hold all that
     /// `Coverage` has.
-    pub fn holding(operation: &Operation, read: fn(&[u8]) -> Result<Piece, Refusal>) -> Run<'_> {
+    pub fn holding(operation: &Operation, read: Reader) -> Run<'_> {
         Run { read: Some(read), ..Run::of(operation) }
     }
 
@@ -245,8 +256,11 @@ impl Run<'_> {
         self.progress(source);
         match compared {
             Ok(met) => {
-                let Met { number, room, manner, .. } = met;
+                let Met { number, place, room, manner } = met;
                 *source.met.entry(Key { number, room, manner }).or_insert(0) += 1;
+                if let Some(chunks) = &mut self.chunks {
+                    chunks.add(input, number, place);
+                }
                 Some(met)
             }
             Err(difference) => {

@@ -31,15 +31,29 @@ pub struct EventSpelling {
     pub status_left_out: bool,
 }
 
-/// How a piece is spelled: one entry for each event of each track.
+/// A chunk that readers pass over: any but a track's.
+#[derive(Clone, Debug, PartialEq, Eq)]
+pub struct UnknownChunk {
+    /// Not `MTrk`.
+    pub tag: [u8; 4],
+    pub data: Vec<u8>,
+}
+
+/// How a piece is spelled: one entry for each event of each track, and what the file has
+/// besides its piece, of which both manners have nothing.
 #[derive(Clone, Debug, PartialEq, Eq)]
 pub struct Spelling {
     pub tracks: Vec<Vec<EventSpelling>>,
+    /// The bytes of the header behind its division.
+    pub header_extra: Vec<u8>,
+    /// The unknown chunks before each track, and at last those behind the last track.
+    pub unknown: Vec<Vec<UnknownChunk>>,
 }
 
 impl Spelling {
     /// Asks `choose` about each event, handing it the shortest permitted
-    /// spelling. Nothing if the piece has a step or a length over four bytes.
+    /// spelling; there is nothing besides the piece. Nothing is given if the piece has a
+    /// step or a length over four bytes.
     pub fn choose(
         piece: &Piece,
         mut choose: impl FnMut(EventSpelling) -> EventSpelling,
@@ -54,7 +68,8 @@ impl Spelling {
             }
             tracks.push(spelled);
         }
-        Some(Spelling { tracks })
+        let unknown = vec![Vec::new(); piece.tracks.len() + 1];
+        Some(Spelling { tracks, header_extra: Vec::new(), unknown })
     }
 
     pub fn of_manner(piece: &Piece, manner: Manner) -> Option<Spelling> {

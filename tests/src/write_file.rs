@@ -4,25 +4,61 @@ use std::borrow::Cow;
 
 use crate::number::{fewest_bytes, write_variable};
 use crate::piece::{Event, Kind, Mode, Piece, Track};
-use crate::spelling::{delta_of, may_leave_out, EventSpelling, Manner, Spelling};
+use crate::spelling::{delta_of, may_leave_out, EventSpelling, Manner, Spelling, UnknownChunk};
 
 /// The layout of `piece` with `spelling`; nothing if the piece breaks a rule
 /// or has a number too great to spell, or the spelling is not permitted.
 pub fn layout(piece: &Piece, spelling: &Spelling) -> Option<Vec<u8>> {
-    if !piece.keeps_rules() || spelling.tracks.len() != piece.tracks.len() {
+    let Spelling { tracks, header_extra, unknown } = spelling;
+    let count = piece.tracks.len();
+    if !piece.keeps_rules() || tracks.len() != count || unknown.len() != count + 1 {
         return None;
     }
-    let mut file = b"MThd\0\0\0\x06".to_vec();
+    let mut file = b"MThd".to_vec();
+    file.extend(declared(6 + header_extra.len())?);
     file.extend(piece.format.number().to_be_bytes());
-    file.extend(u16::try_from(piece.tracks.len()).ok()?.to_be_bytes());
+    file.extend(u16::try_from(count).ok()?.to_be_bytes());
     file.extend(piece.division.signed().to_be_bytes());
-    for (track, spelled) in piece.tracks.iter().zip(&spelling.tracks) {
-        let body = track_body(track, spelled)?;
-        file.extend(b"MTrk");
-        file.extend(u32::try_from(body.len()).ok()?.to_be_bytes());
-        file.extend(body);
+    file.extend(header_extra);
+    for ((track, spelled), before) in piece.tracks.iter().zip(tracks).zip(unknown) {
+        write_unknown(before, &mut file)?;
+        write_chunk(TRACK, &track_body(track, spelled)?, &mut file)?;
     }
+    write_unknown(&unknown[count], &mut file)?;
     Some(file)
+}
+
+const TRACK: [u8; 4] = *b"MTrk";
+
+fn write_unknown(chunks: &[UnknownChunk], file: &mut Vec<u8>) -> Option<()> {
+    for chunk in chunks {
+        if chunk.tag == TRACK {
+            return None;
+        }
+        write_chunk(chunk.tag, &chunk.data, file)?;
+    }
+    Some(())
+}
+
+fn write_chunk(tag: [u8; 4], data: &[u8], file: &mut Vec<u8>) -> Option<()> {
+    let length = declared(data.len())?;
+    file.extend(tag);
+    file.extend(length);
+    file.extend_from_slice(data);
+    Some(())
+}
+
+/// The length of a chunk as it declares it, if it fits.
+fn declared(length: usize) -> Option<[u8; 4]> {
+    Some(u32::try_from(length).ok()?.to_be_bytes())
+}
+
+#[test]
+fn a_length_fits_32_bits_or_is_not_declared() {
+    assert_eq!(declared(6), Some([0, 0, 0, 6]));
+    assert_eq!(declared(0x0102_0304), Some([1, 2, 3, 4]));
+    assert_eq!(declared(4_294_967_295), Some([255; 4]));
+    assert_eq!(declared(4_294_967_296), None);
 }
 
 /// The layout of `piece` in a manner of writing.

@@ -159,10 +159,9 @@ fn rows_lead_to_the_end_tracks() {
         assert!(rows[count..].iter().all(|row| *row == UNTOUCHED), "seed {seed}: spare rows");
         let (mut times, mut counts) = ([0; 64], [0; 64]);
         list_tracks(&file, &mut times, &mut counts);
-        let mut chunk = 14;
-        for (index, row) in rows[..count].iter().enumerate() {
-            let length = u32::from_be_bytes(file[chunk + 4..chunk + 8].try_into().unwrap());
-            let end = chunk + 8 + length as usize;
+        let ends = track_ends(&file);
+        assert_eq!(ends.len(), count, "seed {seed}");
+        for (index, (row, end)) in rows.iter().zip(ends).enumerate() {
             assert_eq!((row.time.0, row.status), (times[index], 0), "seed {seed}");
             let events = &piece.tracks[index].events;
             let before = events.iter().rev().nth(1).map_or(0, |event| event.time.0);
@@ -171,9 +170,22 @@ fn rows_lead_to_the_end_tracks() {
             let bytes = &file[row.place + taken..end];
             assert_eq!(bytes[..2], [0xFF, 0x2F], "seed {seed}");
             assert_eq!(read_variable(&bytes[2..]), Ok((0, bytes.len() - 2)), "seed {seed}");
-            chunk = end;
         }
     }
+}
+
+/// Where the tracks of a good file end, whatever stands round them.
+fn track_ends(file: &[u8]) -> Vec<usize> {
+    let end =
+        |at: usize| at + 8 + u32::from_be_bytes(file[at + 4..at + 8].try_into().unwrap()) as usize;
+    let (mut at, mut ends) = (0, Vec::new());
+    while at < file.len() {
+        if file[at..].starts_with(b"MTrk") {
+            ends.push(end(at));
+        }
+        at = end(at);
+    }
+    ends
 }
 
 /// What the generator of many tracks must not lose without anybody seeing it.

@@ -79,19 +79,19 @@ fn prefixes_and_ports() -> Vec<Case> {
 
 /// What the reader refuses comes before 32, 31, 37 and 33.
 fn reading_first() -> Vec<Case> {
-    let after = |mut file: Vec<u8>| {
-        file.push(0);
-        file
-    };
+    let after = |file: Vec<u8>, rest: &[u8]| [&file, rest].concat();
+    let further = b"MTrk\0\0\0\0";
     let cut = |mut file: Vec<u8>| {
         file.pop();
         file
     };
     let bad_then = |body: &str| tracks(1, &[PREFIX, body]);
     vec![
-        ("13 before 32", after(tracks(2, &[END, END])), 2, 13, 38),
+        ("13 before 32", after(tracks(2, &[END, END]), further), 2, 13, 38),
+        ("2 behind the last track before 32", after(tracks(2, &[END, END]), &[0]), 2, 2, 38),
         ("2 before 31", cut(many_and(1, 64, END)), 65, 2, 14 + 64 * 12),
-        ("13 before 37", after(tracks(1, &[END, END])), 0, 13, 38),
+        ("13 before 37", after(tracks(1, &[END, END]), further), 0, 13, 38),
+        ("2 behind the last track before 37", after(tracks(1, &[END, END]), &[0]), 0, 2, 38),
         ("8 before 33", bad_then("00 3C 40  00 FF 2F 00"), 2, 8, 39),
         ("11 before 33", bad_then("00 FF 51 03 00 00 00  00 FF 2F 00"), 2, 11, 39),
         ("12 before 33", bad_then("00 FF 2F 00 00"), 2, 12, 43),

@@ -30,7 +30,7 @@ fn run_of(operation: &Operation, seeds: u64, limits: bool) -> Run<'_> {
 
 #[test]
 fn a_good_run_is_good() {
-    let due: Vec<u8> = (0..=14).chain([29, 31, 32, 33]).collect();
+    let due: Vec<u8> = (0..=3).chain(5..=14).chain([29, 31, 32, 33]).collect();
     let run = run_of(&GOOD, 4_000, true);
     assert_eq!(run.differences(), 0);
     assert!(run.report(&due));

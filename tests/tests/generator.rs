@@ -6,10 +6,13 @@ use std::collections::{BTreeMap, BTreeSet};
 use std::ops::RangeInclusive;
 
 use common::{folded, tidied, to_text};
+use second::chunk_coverage::ChunkCoverage;
 use second::generate::{
-    aims, benchmark_file, damaged_table_case, file_case, fold_benchmark_file, limit_cases, manner,
-    many_tracks_case, piece, random_table_case, room, saved_case, sheet_text_files, short_table,
-    small_benchmark_file, small_fold_benchmark_file, sung_file, text_case, text_limit_cases, Rng,
+    aims, benchmark_file, chunks_among_tracks_file, chunks_round_track_file, damaged_table_case,
+    file_case, fold_benchmark_file, limit_cases, manner, many_tracks_case, piece,
+    random_table_case, room, saved_case, sheet_text_files, short_table, small_benchmark_file,
+    small_chunks_among_tracks_file, small_chunks_round_track_file, small_fold_benchmark_file,
+    spelling, sung_file, text_case, text_limit_cases, Rng,
 };
 use second::number::read_variable;
 use second::operations::{check, file_to_text, text_to_file};
@@ -42,7 +45,8 @@ fn files_meet_every_number() {
     }));
     println!("{CASES} files, seeds 0..{CASES}: {counts:?}");
     let met: BTreeSet<u8> = counts.keys().copied().collect();
-    assert_eq!(met, (0..=14).collect());
+    // 4 is not given.
+    assert_eq!(met, (0..=3).chain(5..=14).collect());
     for (number, count) in counts {
         let least = if number == 1 { 5 } else { 100 };
         assert!(count >= least, "{number} only {count} times");
@@ -74,6 +78,54 @@ fn header_faults_meet_every_place() {
         .map(|answer| (answer.number, answer.place))
         .collect();
     assert_eq!(answers, BTreeSet::from([(3, 0), (3, 4), (3, 8), (3, 10), (3, 12)]));
+}
+
+/// Every sort of header and chunks, good and refused.
+#[test]
+fn files_meet_every_sort_of_chunks() {
+    let met = chunks_of((0..CASES).map(file_case));
+    println!("{CASES} files, seeds 0..{CASES}: {}", met.summary());
+    assert_eq!(met.missing(), [""; 0]);
+    let (name, count) = met.least();
+    assert!(count >= 10, "{name} only {count} times");
+}
+
+/// The files of many tracks and of texts are mostly good: they have all sorts that are.
+#[test]
+fn other_files_meet_every_good_sort_of_chunks() {
+    let tracks = chunks_of((0..CASES).map(many_tracks_case));
+    let sung = chunks_of((0..2_000).map(|seed| sung_file(&mut Rng::new(seed))));
+    for (what, met) in [("many tracks", tracks), ("sung", sung)] {
+        println!("{what}: {}", met.summary());
+        let missing = met.missing();
+        let never: Vec<&str> = ChunkCoverage::GOOD
+            .into_iter()
+            .filter(|name| missing.contains(&name.to_string()))
+            .collect();
+        assert_eq!(never, [""; 0], "{what}");
+    }
+}
+
+fn chunks_of(files: impl Iterator<Item = Vec<u8>>) -> ChunkCoverage {
+    let mut met = ChunkCoverage::default();
+    for file in files {
+        let answer = check(&file);
+        met.add(&file, answer.number, answer.place);
+    }
+    met
+}
+
+/// Half of the spellings have nothing besides the piece.
+#[test]
+fn half_of_the_spellings_are_plain() {
+    let plain = (0..CASES).filter(|seed| {
+        let rng = &mut Rng::new(*seed);
+        let piece = piece(rng);
+        let spelling = spelling(rng, &piece);
+        spelling.header_extra.is_empty() && spelling.unknown.iter().all(Vec::is_empty)
+    });
+    let plain = plain.count() as u64;
+    assert!((CASES / 2..CASES * 6 / 10).contains(&plain), "{plain} of {CASES}");
 }
 
 fn events(piece: &Piece) -> impl Iterator<Item = &Event> {
@@ -203,6 +255,26 @@ fn the_benchmark_files_to_be_folded_are_as_asked() {
     }
 }
 
+/// So many bytes, tracks and chunks; nothing but chunks and End_tracks.
+#[test]
+fn the_benchmark_files_of_chunks_are_as_asked() {
+    for (file, size, tracks, chunks) in [
+        (chunks_round_track_file(), 1_048_576, 1, 131_068),
+        (small_chunks_round_track_file(), 65_536, 1, 8_188),
+        (chunks_among_tracks_file(), 1_048_576, 65_535, 32_767),
+        (small_chunks_among_tracks_file(), 65_536, 4_095, 2_047),
+    ] {
+        assert_eq!(file.len(), size);
+        let piece = read_file(&file).unwrap();
+        assert_eq!((piece.tracks.len(), events(&piece).count()), (tracks, tracks));
+        // Six extra bytes of the header make up the size.
+        assert_eq!(file[..8], *b"MThd\0\0\0\x0C");
+        assert_eq!(14 + 6 + 12 * tracks + 8 * chunks, size);
+        let empty = file.windows(8).filter(|part| part == b"XFIH\0\0\0\0");
+        assert_eq!(empty.count(), chunks);
+    }
+}
+
 /// The numbers of tracks that folds are timed with.
 const FOLDED: [usize; 4] = [1, 2, 16, 64];
 
@@ -243,8 +315,8 @@ fn seeds_give_what_they_gave() {
 }
 
 const PINNED: [u64; 13] = [
-    0xf3c2_ee0c_b167_5a69, 0x255e_fdf4_429a_07b3, 0x80ca_d4ff_450a_95d7, 0x8e2b_f0b6_0c94_7c34,
-    0x0eef_715d_ac33_2038, 0x6417_ff2e_bdb9_ee9f, 0x8e35_28a6_a807_e1ee, 0x14a4_9e55_be6c_91e1,
+    0x5245_a10a_7a68_6f37, 0x255e_fdf4_429a_07b3, 0x80ca_d4ff_450a_95d7, 0x8e2b_f0b6_0c94_7c34,
+    0x0eef_715d_ac33_2038, 0xdf61_6226_35fd_b5c1, 0x8e35_28a6_a807_e1ee, 0x9139_473f_d04d_ec30,
     0xf81b_4767_f6fb_1324, 0xa9f0_d65a_e90f_ef86, 0xeb02_e454_8150_0397, 0x94f6_1f21_8b97_91e6,
     0x5b1f_3d85_81de_8294,
 ];

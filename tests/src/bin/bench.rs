@@ -14,7 +14,9 @@ use second::archive;
 use second::fast_text;
 use second::fold;
 use second::generate::{
-    benchmark_file, fold_benchmark_file, small_benchmark_file, small_fold_benchmark_file,
+    benchmark_file, chunks_among_tracks_file, chunks_round_track_file, fold_benchmark_file,
+    small_benchmark_file, small_chunks_among_tracks_file, small_chunks_round_track_file,
+    small_fold_benchmark_file,
 };
 use second::operations;
 use second::refusal::Answer;
@@ -37,6 +39,11 @@ fn main() {
         let large = Inputs::of(fold_benchmark_file(*tracks));
         Row::of(task, &large, &Inputs::of(small_fold_benchmark_file(*tracks)))
     }));
+    rows.extend(
+        CHUNKS.iter().map(|([large, small], task)| {
+            Row::of(task, &Inputs::of(large()), &Inputs::of(small()))
+        }),
+    );
     // Nothing is timed before all have been seen to make the same.
     for contender in rows.iter_mut().flat_map(Row::contenders) {
         contender.timed();
@@ -62,9 +69,11 @@ fn main() {
     }
 }
 
-/// A file in manner 1, so that it comes back from tidying and from its text.
+/// A file, and what is made of it.
 struct Inputs {
     file: Vec<u8>,
+    /// In manner 1, as it comes back from its text too.
+    tidied: Vec<u8>,
     text: Vec<u8>,
     /// Empty if the file is none to be folded.
     folded: Vec<u8>,
@@ -81,12 +90,13 @@ impl Inputs {
             made.truncate(length);
             made
         };
+        let tidied = made(file.len(), &|room| operations::tidy(&file, room));
         let text = made(25 * file.len(), &|room| operations::file_to_text(&file, room));
         let folded = made(file.len(), &|room| fold::fold(&file, room));
         let sheet = made(sheet::room_enough(file.len()), &|room| sheet::file_to_sheet(&file, room));
         let sheet_text =
             made(table::room_enough(sheet.len()), &|room| table::sheet_to_text(&sheet, room));
-        Inputs { file, text, folded, sheet, sheet_text }
+        Inputs { file, tidied, text, folded, sheet, sheet_text }
     }
 }
 
@@ -135,14 +145,7 @@ const TASKS: [Task; 8] = [
         ..TIDY
     },
     Task { name: SHEET_TEXT_TO_FILE, input: |inputs| &inputs.sheet_text, ..TO_FILE },
-    Task {
-        name: "check",
-        due: |_| &[],
-        room: |_| 0,
-        ours: |file, _| archive::check(file),
-        second: |file, _| operations::check(file).packed(),
-        ..TIDY
-    },
+    CHECK,
     TIDY,
 ];
 
@@ -153,6 +156,28 @@ const FOLDS: [(usize, Task); 4] = [
     (16, Task { name: "fold, 16 tracks", ..FOLD }),
     (64, Task { name: "fold, 64 tracks", ..FOLD }),
 ];
+
+/// Of a large file and of a small one.
+type Makers = [fn() -> Vec<u8>; 2];
+
+/// Each on files that are mostly unknown chunks.
+const CHUNKS: [(Makers, Task); 4] = [
+    (ROUND_TRACK, Task { name: "check, chunks round a track", ..CHECK }),
+    (ROUND_TRACK, Task { name: "tidy, chunks round a track", ..TIDY }),
+    (AMONG_TRACKS, Task { name: "check, chunks among tracks", ..CHECK }),
+    (AMONG_TRACKS, Task { name: "tidy, chunks among tracks", ..TIDY }),
+];
+const ROUND_TRACK: Makers = [chunks_round_track_file, small_chunks_round_track_file];
+const AMONG_TRACKS: Makers = [chunks_among_tracks_file, small_chunks_among_tracks_file];
+
+const CHECK: Task = Task {
+    name: "check",
+    due: |_| &[],
+    room: |_| 0,
+    ours: |file, _| archive::check(file),
+    second: |file, _| operations::check(file).packed(),
+    ..TIDY
+};
 
 const FOLD: Task = Task {
     name: "fold",
@@ -188,8 +213,8 @@ const TO_FILE: Task = Task {
 const TIDY: Task = Task {
     name: "tidy",
     input: |inputs| &inputs.file,
-    due: |inputs| &inputs.file,
-    room: |inputs| inputs.file.len(),
+    due: |inputs| &inputs.tidied,
+    room: |inputs| inputs.tidied.len(),
     ours: |file, room| archive::tidy(file, room),
     second: |file, room| operations::tidy(file, room).packed(),
     fast: None,
@@ -362,7 +387,8 @@ fn print_notes(large: &Inputs, small: &Inputs) {
          Milliseconds, medians of {ROUNDS} by the wall clock. Ratio: ours by the other's. midicsv\n\
          (csvmidi in the row of text to file) is a whole process. Growth: ours by ours on a file\n\
          of {} bytes, {:.2} times smaller, or on its text of {} bytes, {:.2} times smaller, or on\n\
-         its sheet, {:.2} times smaller; of a fold, on a file of as many tracks, 16 times smaller.",
+         its sheet, {:.2} times smaller; of a fold, on a file of as many tracks, 16 times smaller;\n\
+         of the files of empty unknown chunks, on one like it, 16 times smaller.",
         small.file.len(),
         times(|inputs| &inputs.file),
         small.text.len(),

@@ -1,9 +1,10 @@
 //! differential [CASES [FIRST_SEED [OPERATION]]]: the proved archive against the second
 //! program, in all operations or in one. Exit 0 when all answers are the same, every
 //! number, room, manner and aim due was met and no other number, the generated files and
-//! texts held all that is due, outside files, texts and tables are converted and folded as
-//! they must be, and what is converted forth and back is as it was. With fewer cases than
-//! `CASES` what was never met is said, but is no fault.
+//! texts held all that is due, every sort of header and chunks was met, outside files,
+//! texts and tables are converted and folded as they must be, and what is converted forth
+//! and back is as it was. With fewer cases than `CASES` what was never met is said, but is
+//! no fault.
 
 use std::env;
 use std::process::ExitCode;
@@ -93,8 +94,7 @@ type Part = (&'static Operation, fn(cases: u64, first: u64, few: bool) -> Vec<bo
 
 const PARTS: [Part; 7] = [
     (&CHECK, |cases, first, few| {
-        let read: Vec<u8> = (0..=13).collect();
-        vec![on_files(Run::of(&CHECK).of_few(few), &read, cases, first)]
+        vec![on_files(Run::of(&CHECK).of_few(few), &read(), cases, first)]
     }),
     (&TIDY, |cases, first, few| {
         // Not 29: a file that is read has at most 1,048,576 bytes, and manner 1 takes no
@@ -134,9 +134,14 @@ const PARTS: [Part; 7] = [
     }),
 ];
 
+/// The numbers of reading a file. Not 4: it fell away with Wish 3, and is a fault if it comes.
+fn read() -> Vec<u8> {
+    (0..=3).chain(5..=13).collect()
+}
+
 /// The numbers of an operation that reads a file and writes something else.
 fn written() -> Vec<u8> {
-    (0..=14).collect()
+    [read(), vec![14]].concat()
 }
 
 fn main() -> ExitCode {
@@ -171,7 +176,8 @@ fn words_given() -> Option<(u64, u64, Option<String>)> {
 }
 
 /// Compares an operation that takes a file; `due` are the numbers to be met.
-fn on_files(mut run: Run, due: &[u8], cases: u64, first: u64) -> bool {
+fn on_files(run: Run, due: &[u8], cases: u64, first: u64) -> bool {
+    let mut run = run.of_chunks();
     file_sources(&mut run, cases, first);
     run.report(due)
 }
@@ -193,18 +199,19 @@ fn file_sources(run: &mut Run, cases: u64, first: u64) {
 }
 
 /// Compares fold: on files made for it, and on the same as the others.
-fn on_tracks(mut run: Run, cases: u64, first: u64) -> bool {
+fn on_tracks(run: Run, cases: u64, first: u64) -> bool {
+    let mut run = run.of_chunks();
     run.source("many tracks", first..first + cases, many_tracks_case);
     run.file_limits("fold limits", &fold_limit_cases());
     file_sources(&mut run, cases / 2, first);
     // Not 27: no folded step is longer than one of the file. Not 37: it has rows enough.
-    let due: Vec<u8> = (0..=14).chain([29, 31, 32, 33]).collect();
-    run.report(&due)
+    run.report(&[written(), vec![29, 31, 32, 33]].concat())
 }
 
 /// Compares file_to_sheet: on files of texts, and on the same as the others.
-fn on_sung(mut run: Run, cases: u64, first: u64) -> bool {
+fn on_sung(run: Run, cases: u64, first: u64) -> bool {
     const TIMES: u64 = 4;
+    let mut run = run.of_chunks();
     let files = sheet_text_files();
     run.source("texts", 0..TIMES * files.len() as u64, |seed| {
         files[(seed / TIMES) as usize].clone()

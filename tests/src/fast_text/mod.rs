@@ -28,57 +28,59 @@ fn refuse<T>(number: Number, place: usize) -> Result<T, Refusal> {
 }
 
 fn pieces(file: &[u8], text: &mut Vec<u8>) -> Result<(), Refusal> {
-    let tracks = header(file, text)?;
-    let mut at = 14;
-    for number in 1..=tracks {
-        let left = file.len() - at;
-        if left < 8 {
+    let (tracks, mut at) = header(file, text)?;
+    let mut read = 0;
+    // Chunk by chunk; once all tracks are read, the file's end may come.
+    while read < tracks || at < file.len() {
+        let Some(start) = file[at..].first_chunk::<8>() else {
+            return refuse(Number::FileCutShort, at);
+        };
+        let is_track = start.starts_with(b"MTrk");
+        if is_track && read == tracks {
+            return refuse(Number::AfterLastTrack, at);
+        }
+        let (body, length) = (at + 8, high_first(&start[4..]) as usize);
+        if length > file.len() - body {
             return refuse(Number::FileCutShort, at);
         }
-        if file[at..at + 4] != *b"MTrk" {
-            return refuse(Number::TrackTag, at);
+        at = body + length;
+        if is_track {
+            read += 1;
+            Track::new(&file[..at], body, read).write(text)?;
         }
-        let length = high_first(&file[at + 4..at + 8]) as usize;
-        if length > left - 8 {
-            return refuse(Number::FileCutShort, at);
-        }
-        let end = at + 8 + length;
-        Track::new(&file[..end], at + 8, number).write(text)?;
-        at = end;
-    }
-    if at < file.len() {
-        return refuse(Number::AfterLastTrack, at);
     }
     text.extend_from_slice(b"0, 0, End_of_file\n");
     Ok(())
 }
 
-/// Writes the header's record; the number of tracks.
-fn header(file: &[u8], text: &mut Vec<u8>) -> Result<u32, Refusal> {
+/// Writes the header's record; the number of tracks, and where the header ends.
+fn header(file: &[u8], text: &mut Vec<u8>) -> Result<(u32, usize), Refusal> {
     if file.len() > FILE_MAX {
         return refuse(Number::FileTooLong, 0);
     }
     if file.len() < 14 {
         return refuse(Number::FileCutShort, 0);
     }
+    let end = 8 + high_first(&file[4..8]) as usize;
     let (format, tracks, division) =
         (high_first(&file[8..10]), high_first(&file[10..12]), high_first(&file[12..14]));
     let faults = [
-        (file[..4] != *b"MThd", 0),
-        (high_first(&file[4..8]) != 6, 4),
-        (format > 2, 8),
-        (tracks == 0 || format == 0 && tracks != 1, 10),
-        (division == 0 || division > 32_767, 12),
+        (file[..4] != *b"MThd", Number::Header, 0),
+        (end < 14, Number::Header, 4),
+        (end > file.len(), Number::FileCutShort, 0),
+        (format > 2, Number::Header, 8),
+        (tracks == 0 || format == 0 && tracks != 1, Number::Header, 10),
+        (division == 0 || division > 32_767, Number::Header, 12),
     ];
-    if let Some((_, place)) = faults.into_iter().find(|(fault, _)| *fault) {
-        return refuse(Number::Header, place);
+    if let Some((_, number, place)) = faults.into_iter().find(|(fault, ..)| *fault) {
+        return refuse(number, place);
     }
     text.extend_from_slice(b"0, 0, Header");
     for field in [format, tracks, division] {
         number_field(text, field);
     }
     text.push(b'\n');
-    Ok(tracks)
+    Ok((tracks, end))
 }
 
 fn high_first(bytes: &[u8]) -> u32 {

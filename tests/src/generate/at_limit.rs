@@ -1,5 +1,6 @@
 //! Files at the limit of size and past it, by hand.
 
+use super::chunk_limits::{self, exactly_empty_chunks};
 use super::large::one_long_text;
 use crate::spelling::Manner;
 use crate::write_file::write_file;
@@ -16,17 +17,18 @@ pub struct LimitCase {
 /// Each shape at the limit, and one byte over it, where nothing but 1 counts.
 pub fn limit_cases() -> Vec<LimitCase> {
     let mut cases = Vec::new();
-    for (what, make, number, place) in SHAPES {
+    for (what, make, number, place) in SHAPES.into_iter().chain(chunk_limits::SHAPES) {
         cases.push(LimitCase { what, file: make(FILE_MAX), number, place });
         cases.push(LimitCase { what, file: make(FILE_MAX + 1), number: 1, place: 0 });
     }
     for (size, number) in [(FILE_MAX - 1, 0), (FILE_MAX + 2, 1), (2 * FILE_MAX, 1), (1 << 24, 1)] {
         cases.push(LimitCase { what: "many notes", file: notes(size), number, place: 0 });
     }
+    cases.push(exactly_empty_chunks());
     cases
 }
 
-type Shape = (&'static str, fn(usize) -> Vec<u8>, u8, usize);
+pub(super) type Shape = (&'static str, fn(usize) -> Vec<u8>, u8, usize);
 
 /// What it is, a maker of such a file of a given size, the answer at the limit.
 const SHAPES: [Shape; 9] = [
@@ -38,7 +40,7 @@ const SHAPES: [Shape; 9] = [
     ("a fault in the middle", fault_in_the_middle, 8, note_at(MIDDLE)),
     ("a fault in the last byte", fault_in_the_last, 10, FILE_MAX - 5),
     ("a byte after End_track", after_end_track, 12, FILE_MAX - 1),
-    ("a byte after the last track", after_last_track, 13, FILE_MAX - 1),
+    ("a byte after the last track", after_last_track, 2, FILE_MAX - 1),
 ];
 
 const FIRST_NOTE: &[u8] = &[0, 0x90, 60, 64];
@@ -72,7 +74,7 @@ fn notes_then(size: usize, last: &[u8]) -> Vec<u8> {
     one_track(&body)
 }
 
-fn notes(size: usize) -> Vec<u8> {
+pub(super) fn notes(size: usize) -> Vec<u8> {
     notes_then(size, END_TRACK)
 }
 

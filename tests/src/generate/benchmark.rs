@@ -5,6 +5,7 @@ use crate::spelling::{shortest, Manner};
 use crate::write_file::{write_event, write_file};
 use crate::FILE_MAX;
 
+use super::chunk_limits::{among_tracks, round_track};
 use super::pieces::{kind_of, KINDS};
 use super::Rng;
 
@@ -38,6 +39,34 @@ pub fn fold_benchmark_file(tracks: usize) -> Vec<u8> {
 /// One like it, a sixteenth as large.
 pub fn small_fold_benchmark_file(tracks: usize) -> Vec<u8> {
     notes_in_turn(tracks, FILE_MAX / TIMES_SMALL)
+}
+
+/// Always the same file of 1,048,576 bytes: as many empty unknown chunks as it holds,
+/// half of them before its one track, half behind.
+pub fn chunks_round_track_file() -> Vec<u8> {
+    chunks_round_track(FILE_MAX)
+}
+
+/// One like it, a sixteenth as large.
+pub fn small_chunks_round_track_file() -> Vec<u8> {
+    chunks_round_track(FILE_MAX / TIMES_SMALL)
+}
+
+fn chunks_round_track(size: usize) -> Vec<u8> {
+    // Of eight bytes each, beside the header of 14 and a track of 12.
+    let chunks = (size - 26) / 8;
+    round_track(size, chunks / 2, chunks - chunks / 2)
+}
+
+/// Always the same file of 1,048,576 bytes: as many tracks as can be counted, each
+/// End_track alone, and an empty unknown chunk between every other two.
+pub fn chunks_among_tracks_file() -> Vec<u8> {
+    among_tracks(FILE_MAX, u16::MAX)
+}
+
+/// One like it, a sixteenth as large.
+pub fn small_chunks_among_tracks_file() -> Vec<u8> {
+    among_tracks(FILE_MAX / TIMES_SMALL, u16::MAX / TIMES_SMALL as u16)
 }
 
 /// Up to 64 tracks with as many notes as there is room for, in each the same number.

@@ -1,15 +1,16 @@
 //! Files damaged so as to meet one refusal number, and files damaged anyhow.
 
+use super::damaged_chunks::{aimed_at_chunks, bad_header, cut_short, further_track};
 use super::raw_file::RawFile;
 use super::Rng;
 
-/// A file aimed at a random one of the numbers 2..13 (1 needs a large file).
+/// A file aimed at a random one of the numbers 2..13 (1 needs a large file), or at a rule
+/// of header and chunks; 4 is not given.
 pub fn aimed(rng: &mut Rng) -> Vec<u8> {
     let mut file = RawFile::good(rng);
-    match rng.between(2, 13) {
+    match rng.between(2, 15) {
         2 => return cut_short(rng, file),
-        3 => header(rng, &mut file.header),
-        4 => tag(rng, &mut file),
+        3 => bad_header(rng, &mut file.header),
         5 => too_long_number(rng, &mut file),
         6 => event_cut_short(rng, &mut file),
         7 => time_too_great(rng, &mut file),
@@ -18,62 +19,10 @@ pub fn aimed(rng: &mut Rng) -> Vec<u8> {
         10 => bad_meta_length(rng, &mut file),
         11 => bad_meta_value(rng, &mut file),
         12 => after_end_track(rng, &mut file),
-        _ => file.tail = tail(rng),
+        13 => return further_track(rng, file),
+        _ => return aimed_at_chunks(rng, file),
     }
     file.bytes()
-}
-
-fn cut_short(rng: &mut Rng, mut file: RawFile) -> Vec<u8> {
-    match rng.below(4) {
-        0 => {
-            let mut bytes = file.bytes();
-            bytes.truncate(rng.index(14));
-            bytes
-        }
-        1 => {
-            // Ends where a track must begin, or a few bytes after.
-            let kept = rng.index(file.tracks.len());
-            file.tracks.truncate(kept);
-            let more = rng.index(9);
-            file.tail = b"MTrk\0\0\0\x04"[..more].to_vec();
-            file.bytes()
-        }
-        2 => {
-            let track = file.any_track(rng);
-            let over = rng.pick(&[1, 2, 1 << 24, 1 << 28]);
-            let most = rng.pick(&[u32::MAX, 1 << 31]);
-            let length = track.true_length() as u32;
-            track.length = Some(if rng.one_in(3) { most } else { length + over });
-            file.bytes()
-        }
-        _ => {
-            let mut bytes = file.bytes();
-            bytes.truncate(rng.index(bytes.len()));
-            bytes
-        }
-    }
-}
-
-fn header(rng: &mut Rng, header: &mut [u8; 14]) {
-    // At times two faults, of which the first must decide.
-    for _ in 0..rng.between(1, 2) {
-        match rng.below(5) {
-            0 => header[rng.index(4)] ^= rng.pick(&[0x20, 0x01, 0x80]),
-            1 => header[4 + rng.index(4)] ^= rng.pick(&[1, 3, 8, 128]),
-            2 => *pair(header, 8) = rng.pick(&[[0, 3], [1, 0], [255, 255], [2, 0], [0, 0]]),
-            3 => *pair(header, 10) = rng.pick(&[[0, 0], [0, 2], [1, 0], [255, 255]]),
-            _ => *pair(header, 12) = rng.pick(&[[0, 0], [128, 0], [0xE7, 40], [255, 255]]),
-        }
-    }
-}
-
-fn pair(header: &mut [u8; 14], at: usize) -> &mut [u8; 2] {
-    (&mut header[at..at + 2]).try_into().expect("two bytes")
-}
-
-fn tag(rng: &mut Rng, file: &mut RawFile) {
-    let tags = [*b"mtrk", *b"MThd", *b"MTrl", *b"XFIH", *b"\0Trk"];
-    file.any_track(rng).tag = rng.pick(&tags);
 }
 
 fn too_long_number(rng: &mut Rng, file: &mut RawFile) {
@@ -90,7 +39,7 @@ fn too_long_number(rng: &mut Rng, file: &mut RawFile) {
 
 fn event_cut_short(rng: &mut Rng, file: &mut RawFile) {
     let track = file.any_track(rng);
-    let last = track.events.len() - 1;
+    let last = track.parts.len() - 1;
     match rng.below(4) {
         0 => {
             // The bytes are there, the declared length leaves them out.
@@ -98,18 +47,18 @@ fn event_cut_short(rng: &mut Rng, file: &mut RawFile) {
             track.length = Some((length - 1 - rng.index(length)) as u32);
         }
         1 => {
-            track.events.remove(last);
+            track.parts.remove(last);
         }
         2 => {
             let cut = rng.index(last + 1);
-            track.events.truncate(cut + 1);
-            let length = track.events[cut].len();
-            track.events[cut].truncate(rng.index(length));
+            track.parts.truncate(cut + 1);
+            let length = track.parts[cut].len();
+            track.parts[cut].truncate(rng.index(length));
         }
         _ => {
             let body = [&[0, 0xF0][..], &[0, 0xFF, 5], &[0, 0xFF, 0x7F], &[0, 0xFF, 0x60]];
             let length: &[u8] = rng.pick(&[&[0x7F][..], &[0x87, 0x7F], &[0xFF, 0xFF, 0xFF, 0x7F]]);
-            track.events[last] = [rng.pick(&body), length, b"short"].concat();
+            track.parts[last] = [rng.pick(&body), length, b"short"].concat();
         }
     }
 }
@@ -118,18 +67,18 @@ fn time_too_great(rng: &mut Rng, file: &mut RawFile) {
     let deltas = rng.between(15, 17);
     let last = rng.pick(&[0x0E, 0x0F, 0x10, 0x11]);
     let track = file.any_track(rng);
-    let end = track.events.len() - 1;
+    let end = track.parts.len() - 1;
     // Alone in its track half the time: then only `last` decides.
     if rng.one_in(2) {
-        track.events.drain(..end);
+        track.parts.drain(..end);
     }
     for _ in 0..deltas {
-        track.events.insert(0, vec![0xFF, 0xFF, 0xFF, 0x7F, 0xC0, 1]);
+        track.parts.insert(0, vec![0xFF, 0xFF, 0xFF, 0x7F, 0xC0, 1]);
     }
-    let end = track.events.len() - 1;
+    let end = track.parts.len() - 1;
     let after: &[u8] =
         rng.pick(&[&[][..], &[0xFF, 0x2F, 0], &[0xF4], &[0xC0], &[0xFF, 0x2F, 1, 0]]);
-    track.events[end] = [&[last], after].concat();
+    track.parts[end] = [&[last], after].concat();
 }
 
 fn bad_status(rng: &mut Rng, file: &mut RawFile) {
@@ -144,8 +93,8 @@ fn bad_status(rng: &mut Rng, file: &mut RawFile) {
             let meta_type = rng.between(128, 255) as u8;
             file.insert(rng, vec![0, 0xFF, meta_type, 0]);
         }
-        2 => file.any_track(rng).events.insert(0, vec![0, data, data]),
-        3 => file.any_track(rng).events.insert(0, vec![data]),
+        2 => file.any_track(rng).parts.insert(0, vec![0, data, data]),
+        3 => file.any_track(rng).parts.insert(0, vec![data]),
         _ => {
             // A status is not kept in force over these.
             let over: &[u8] = rng.pick(&[&[0, 0xFF, 1, 0][..], &[0, 0xF0, 0], &[0, 0xF7, 1, 0x90]]);
@@ -177,8 +126,8 @@ fn bad_meta_length(rng: &mut Rng, file: &mut RawFile) {
     let event = [&[0, 0xFF, meta_type], spelled, &[length], &body].concat();
     if body.is_empty() {
         let track = file.any_track(rng);
-        let end = track.events.len() - 1;
-        track.events[end] = event;
+        let end = track.parts.len() - 1;
+        track.parts[end] = event;
     } else {
         file.insert(rng, event);
     }
@@ -204,18 +153,7 @@ fn after_end_track(rng: &mut Rng, file: &mut RawFile) {
             rng.bytes(count)
         }
     };
-    file.any_track(rng).events.push(more);
-}
-
-fn tail(rng: &mut Rng) -> Vec<u8> {
-    match rng.below(3) {
-        0 => vec![rng.byte()],
-        1 => b"MTrk\0\0\0\x04\0\xFF\x2F\0".to_vec(),
-        _ => {
-            let count = rng.between(1, 20) as usize;
-            rng.bytes(count)
-        }
-    }
+    file.any_track(rng).parts.push(more);
 }
 
 /// A file of `make` with some bytes changed, lost, doubled or put in.

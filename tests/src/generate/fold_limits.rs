@@ -10,6 +10,9 @@ pub fn fold_limit_cases() -> Vec<LimitCase> {
     let case = |what, file, number, place| LimitCase { what, file, number, place };
     let port = in_turn(1, 2, 174_755, own_status, MIDI_PORT);
     let (length, port_at) = (port.len(), port.len() - END_TRACK.len() - MIDI_PORT.len());
+    // With room for one track more than is counted.
+    let shorter = in_turn(1, 2, 174_752, own_status, MIDI_PORT);
+    let further = [shorter.clone(), chunk(&[])].concat();
     vec![
         case("folded to one byte under the limit", folded_to(FILE_MAX - 1), 0, 0),
         case("folded to the limit", folded_to(FILE_MAX), 0, 0),
@@ -23,7 +26,8 @@ pub fn fold_limit_cases() -> Vec<LimitCase> {
         case("65 tracks, statuses in turn", own_statuses(65, 5_372), 31, 10),
         case("format 2", in_turn(2, 2, 174_756, own_status, &[]), 32, 8),
         case("33 comes before 29", port.clone(), 33, port_at),
-        case("13 comes before 33 and 29", [port, vec![0]].concat(), 13, length),
+        case("2 comes before 33 and 29", [port, vec![0]].concat(), 2, length),
+        case("13 comes before 33 and 29", further, 13, shorter.len()),
     ]
 }
 

@@ -1,16 +1,19 @@
 //! Seeded inputs, the same for the same seed on every machine.
 //!
 //! - `file_case(seed)`: a file, good, damaged or random; aimed so that many
-//!   seeds together meet every refusal number 1..13.
+//!   seeds together meet every refusal number 1..13 but 4, which is not given, and all
+//!   that `ChunkCoverage` knows of headers and chunks.
 //! - `text_case(seed)`: a text likewise, for 21..29; `manner(rng)` gives 30.
 //! - `aims()`: boundaries of texts, each with makers of texts and the answer due.
 //! - `room(rng, needed)`: a size of lent room, now and then too small (14).
-//! - `piece(rng)`, `spelling(rng, piece)`: good pieces and permitted spellings.
+//! - `piece(rng)`, `spelling(rng, piece)`: good pieces and permitted spellings, half of
+//!   them with a longer header or unknown chunks.
 //! - `varied_text(rng, piece)`: a text of the piece, spelled loosely.
 //! - `many_tracks_case(seed)`: a file of many tracks and few Times, for the fold; many
 //!   seeds together meet 0, 14, 31, 32 and 33.
 //! - `benchmark_file()`, `small_benchmark_file()`: one file of nearly 1 MiB, one of
-//!   nearly 64 KiB; `fold_benchmark_file(tracks)` and its small one likewise.
+//!   nearly 64 KiB; `fold_benchmark_file(tracks)`, `chunks_round_track_file()`,
+//!   `chunks_among_tracks_file()` and their small ones likewise.
 //! - `limit_cases()`, `text_limit_cases()`, `fold_limit_cases()`: files, texts and files
 //!   to be folded, at the limits of size and past them, by hand.
 //! - `mutated_copy(rng, file)`, `mutated_text(rng, text)`: with some bytes changed.
@@ -24,6 +27,8 @@
 mod aims;
 mod at_limit;
 mod benchmark;
+mod chunk_limits;
+mod damaged_chunks;
 mod damaged_file;
 mod damaged_text;
 mod field_damage;
@@ -39,11 +44,14 @@ mod table_limits;
 mod tables;
 mod text_limits;
 mod text_lines;
+mod unknown_chunks;
 
 pub use aims::{aims, Aim, Aimed};
 pub use at_limit::{limit_cases, LimitCase};
 pub use benchmark::{
-    benchmark_file, fold_benchmark_file, small_benchmark_file, small_fold_benchmark_file,
+    benchmark_file, chunks_among_tracks_file, chunks_round_track_file, fold_benchmark_file,
+    small_benchmark_file, small_chunks_among_tracks_file, small_chunks_round_track_file,
+    small_fold_benchmark_file,
 };
 pub use damaged_file::mutated_copy;
 pub use damaged_text::mutated_text;

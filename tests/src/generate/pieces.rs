@@ -6,6 +6,7 @@ use crate::piece::{
 };
 use crate::spelling::{EventSpelling, Spelling};
 
+use super::unknown_chunks::besides;
 use super::Rng;
 
 /// How many kinds of event there are, End_track among them.
@@ -183,7 +184,7 @@ fn text(rng: &mut Rng) -> Vec<u8> {
     (0..length).map(|_| byte()).collect()
 }
 
-/// A random permitted spelling of `piece`.
+/// A random permitted spelling of `piece`, half the time with something besides it.
 pub fn spelling(rng: &mut Rng, piece: &Piece) -> Spelling {
     let pads_one_in = rng.pick(&[1, 3, 10]);
     // Statuses are left out never, always or by chance.
@@ -193,7 +194,9 @@ pub fn spelling(rng: &mut Rng, piece: &Piece) -> Spelling {
         length_bytes: padded(rng, shortest.length_bytes, pads_one_in),
         status_left_out: shortest.status_left_out && leaves_out.unwrap_or_else(|| rng.one_in(2)),
     };
-    Spelling::choose(piece, choose).expect("a generated piece has spellings")
+    let of_events = Spelling::choose(piece, choose).expect("a generated piece has spellings");
+    let (header_extra, unknown) = besides(rng, piece.tracks.len());
+    Spelling { header_extra, unknown, ..of_events }
 }
 
 fn padded(rng: &mut Rng, fewest: usize, one_in: u64) -> usize {

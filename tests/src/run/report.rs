@@ -42,6 +42,7 @@ impl Run<'_> {
         }
         unmet.extend(self.aims_unmet());
         unmet.extend(self.not_held());
+        unmet.extend(self.chunks_unmet());
         let cases: u64 = self.sources.iter().map(|source| source.cases).sum();
         println!("{name}: {cases} cases, {} differences", self.differences);
         println!("{name}: never met: {missing:?} {unmet:?}, met but not due: {undue:?}");
@@ -139,6 +140,17 @@ impl Run<'_> {
             missing.extend(source.held.missing());
         }
         missing
+    }
+
+    /// Prints how often headers and chunks of each sort were met; those never met.
+    fn chunks_unmet(&self) -> Vec<String> {
+        let Some(chunks) = &self.chunks else {
+            return Vec::new();
+        };
+        let (name, count) = chunks.least();
+        println!("  headers and chunks: {}", chunks.summary());
+        println!("  headers and chunks: each sort at least {count} times ({name})");
+        chunks.missing()
     }
 
     fn row(&self, title: &str, cell: impl Fn(&Source) -> String) {

@@ -5,8 +5,9 @@
 use std::fs;
 use std::path::Path;
 
-use second::fold::{fold, Row};
-use second::operations::{file_to_text, text_to_file, tidy};
+use second::fast_text;
+use second::fold::{fold, fold_rows, Row};
+use second::operations::{check, file_to_text, list_tracks, text_to_file, tidy};
 use second::piece::Time;
 use second::refusal::Answer;
 use second::sheet::file_to_sheet;
@@ -84,6 +85,32 @@ pub fn to_sheet(file: &[u8]) -> Result<Vec<u8>, Answer> {
 
 /// A row as no fold leaves it.
 pub const UNTOUCHED: Row = Row { place: 77, time: Time(78), status: 79 };
+
+/// What it is, the file, number and place of the refusal due.
+pub type Case = (&'static str, Vec<u8>, u8, usize);
+
+/// Every operation on a file refuses it alike and writes nothing.
+pub fn refused((what, file, number, place): &Case) {
+    let answer = Answer { number: *number, place: *place, length: 0 };
+    let mut room = [0xAA; 300];
+    let (mut times, mut counts) = ([7; 5], [8; 5]);
+    assert_eq!(check(file), answer, "check: {what}");
+    assert_eq!(file_to_text(file, &mut room), answer, "to text: {what}");
+    assert_eq!(tidy(file, &mut room), answer, "tidy: {what}");
+    assert_eq!(fold(file, &mut room), answer, "fold: {what}");
+    let mut rows = [UNTOUCHED; 2];
+    assert_eq!(fold_rows(file, &mut room, &mut rows), answer, "fold with rows: {what}");
+    assert_eq!(rows, [UNTOUCHED; 2], "rows: {what}");
+    // No room and no rows at all change nothing: the fault is met first.
+    assert_eq!(fold_rows(file, &mut [], &mut []), answer, "fold, no rows: {what}");
+    assert_eq!(file_to_text(file, &mut []), answer, "to text, no room: {what}");
+    assert_eq!(file_to_sheet(file, &mut room), answer, "to sheet: {what}");
+    let fast = fast_text::file_to_text(file, &mut Vec::new());
+    assert_eq!(fast.map_err(Answer::from), Err(answer), "fast text: {what}");
+    assert_eq!(list_tracks(file, &mut times, &mut counts), answer, "list: {what}");
+    assert_eq!(list_tracks(file, &mut [], &mut []), answer, "list, no room: {what}");
+    assert_eq!((room, times, counts), ([0xAA; 300], [7; 5], [8; 5]), "written: {what}");
+}
 
 /// A text as a string, to be read when a test fails.
 pub fn shown(text: Result<Vec<u8>, Answer>) -> String {

@@ -5,9 +5,9 @@ use second::refusal::Answer;
 
 use super::{answer_to_text, cells, refused, text_with, Tally};
 
-/// Numbers with at least one example: 1..14 and 21..30. Those of folding and of tables are
-/// tried by tests/pages.d/refusals.
-const NUMBERS: usize = 24;
+/// Numbers with at least one example: 1..3, 5..14 and 21..30; 4 is not given. Those of folding
+/// and of tables are tried by tests/pages.d/refusals.
+const NUMBERS: usize = 23;
 /// Examples that are no cell of a table stand in lines indented so.
 pub const INDENT: &str = "    ";
 
