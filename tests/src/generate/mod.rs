@@ -57,7 +57,7 @@ pub use damaged_file::mutated_copy;
 pub use damaged_text::mutated_text;
 pub use fold_limits::fold_limit_cases;
 pub use many_tracks::{many_tracks_case, many_tracks_piece};
-pub use pieces::{kind_of, piece, spelling, KINDS};
+pub use pieces::{kind_of, piece, plain_spelling, spelling, KINDS};
 pub use rng::Rng;
 pub use saving::{opened, saved, saved_in, typed, Cell, Padding, Row, Way, Whole};
 pub use sheet_texts::{sheet_text_files, sung_file, sung_piece};
@@ -69,7 +69,8 @@ pub use tables::{
 pub use text_limits::{text_limit_cases, LimitText};
 pub use text_lines::{plain_text, varied_text};
 
-use crate::spelling::Manner;
+use crate::piece::Piece;
+use crate::spelling::{Manner, Spelling};
 use crate::write_file::{layout, write_file};
 
 /// One case in this many is a large one: near a limit, so slow to make.
@@ -109,11 +110,20 @@ pub fn text_case(seed: u64) -> Vec<u8> {
 
 /// A file that is accepted: a random piece in a random permitted spelling.
 pub fn good_file(rng: &mut Rng) -> Vec<u8> {
+    good_file_in(rng, spelling)
+}
+
+/// One without unknown chunks, in a header of 14 bytes: for programs that know no others.
+pub fn plain_file(rng: &mut Rng) -> Vec<u8> {
+    good_file_in(rng, plain_spelling)
+}
+
+fn good_file_in(rng: &mut Rng, spelled: fn(&mut Rng, &Piece) -> Spelling) -> Vec<u8> {
     let piece = piece(rng);
     let made = match rng.below(4) {
         0 => write_file(&piece, Manner::Short),
         1 => write_file(&piece, Manner::Full),
-        _ => layout(&piece, &spelling(rng, &piece)),
+        _ => layout(&piece, &spelled(rng, &piece)),
     };
     made.expect("a generated piece has a layout")
 }

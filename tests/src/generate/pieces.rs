@@ -186,6 +186,13 @@ fn text(rng: &mut Rng) -> Vec<u8> {
 
 /// A random permitted spelling of `piece`, half the time with something besides it.
 pub fn spelling(rng: &mut Rng, piece: &Piece) -> Spelling {
+    let of_events = plain_spelling(rng, piece);
+    let (header_extra, unknown) = besides(rng, piece.tracks.len());
+    Spelling { header_extra, unknown, ..of_events }
+}
+
+/// One with nothing besides it.
+pub fn plain_spelling(rng: &mut Rng, piece: &Piece) -> Spelling {
     let pads_one_in = rng.pick(&[1, 3, 10]);
     // Statuses are left out never, always or by chance.
     let leaves_out = rng.pick(&[Some(false), Some(true), None]);
@@ -194,9 +201,7 @@ pub fn spelling(rng: &mut Rng, piece: &Piece) -> Spelling {
         length_bytes: padded(rng, shortest.length_bytes, pads_one_in),
         status_left_out: shortest.status_left_out && leaves_out.unwrap_or_else(|| rng.one_in(2)),
     };
-    let of_events = Spelling::choose(piece, choose).expect("a generated piece has spellings");
-    let (header_extra, unknown) = besides(rng, piece.tracks.len());
-    Spelling { header_extra, unknown, ..of_events }
+    Spelling::choose(piece, choose).expect("a generated piece has spellings")
 }
 
 fn padded(rng: &mut Rng, fewest: usize, one_in: u64) -> usize {
