@@ -67,8 +67,8 @@ module _ (s : List ℕ) (h : 14 ≤ length s) where
       head-size n = simp (chain, y0, ← e1, lt-leb 6 x1 n)
 
       module _ (t1 : 6 ≤ x1) where
-        z1 : leb 6 (N s 4 4) ≡ true
-        z1 = rw (← e1) (le-leb 6 x1 t1)
+        long : leb 6 (N s 4 4) ≡ true
+        long = rw (← e1) (le-leb 6 x1 t1)
 
         -- "2 at 0 for a header past the end"
         pub head-past : length s - 8 < x1 → BadHeader 2 0 ≡ H s
@@ -76,15 +76,15 @@ module _ (s : List ℕ) (h : 14 ≤ length s) where
         head-past n =
             let few : length (drop 8 s) < x1 = simp length-drop n in
             let z : leb (N s 4 4) (length (drop 8 s)) ≡ false = rw (← e1) (lt-leb x1 (length (drop 8 s)) few) in
-            simp (chain, y0, z1, z)
+            simp (chain, y0, long, z)
 
-        module _ (t5 : 8 + x1 ≤ length s) (x2 : ℕ) (e2 : x2 ≡ N s 2 8) where
-          y1 : leb (N s 4 4) (length (drop 8 s)) ≡ true
-          y1 = let fit : x1 ≤ length (drop 8 s) = simp length-drop (omega arith) in rw (← e1) (le-leb x1 (length (drop 8 s)) fit)
+        module _ (inside : 8 + x1 ≤ length s) (x2 : ℕ) (e2 : x2 ≡ N s 2 8) where
+          whole : leb (N s 4 4) (length (drop 8 s)) ≡ true
+          whole = let fit : x1 ≤ length (drop 8 s) = simp length-drop (omega arith) in rw (← e1) (le-leb x1 (length (drop 8 s)) fit)
 
           pub head-format : 2 < x2 → BadHeader 3 8 ≡ H s
           unfolding check headerStep
-          head-format n = simp (chain, y0, z1, y1, ← e2, lt-leb x2 2 n)
+          head-format n = simp (chain, y0, long, whole, ← e2, lt-leb x2 2 n)
 
           module _ (t2 : x2 ≤ 2) (x3 : ℕ) (e3 : x3 ≡ N s 2 10) where
             y2 : leb (N s 2 8) 2 ≡ true
@@ -94,7 +94,7 @@ module _ (s : List ℕ) (h : 14 ≤ length s) where
             unfolding check headerStep
             head-count n =
                 let z : countOk (N s 2 8) (N s 2 10) ≡ false = rw (← e2, ← e3) n in
-                simp (chain, y0, z1, y1, y2, z)
+                simp (chain, y0, long, whole, y2, z)
 
             module _ (t3 : countOk x2 x3 ≡ true) (x4 : ℕ) (e4 : x4 ≡ N s 2 12) where
               y3 : countOk (N s 2 8) (N s 2 10) ≡ true
@@ -104,7 +104,7 @@ module _ (s : List ℕ) (h : 14 ≤ length s) where
               unfolding check headerStep
               head-division n =
                   let z : divisionOk (N s 2 12) ≡ false = rw (← e4) n in
-                  simp (chain, y0, z1, y1, y2, y3, z)
+                  simp (chain, y0, long, whole, y2, y3, z)
 
               pub head-fine : divisionOk x4 ≡ true → Fields x2 x3 (record { 0 = x4 }) (8 + x1) ≡ H s
               unfolding check headerStep
@@ -112,7 +112,7 @@ module _ (s : List ℕ) (h : 14 ≤ length s) where
                   let z : divisionOk (N s 2 12) ≡ true = rw (← e4) n in
                   let sum : 14 + (x1 - 6) ≡ 8 + x1 = omega arith in
                   let rest : drop (N s 4 4 - 6) (drop 14 s) ≡ drop (8 + x1) s = ap (λ k. drop (k - 6) (drop 14 s)) (sym e1) ∙ drop-drop (x1 - 6) 14 s ∙ ap (λ k. drop k s) sum in
-                  rw (e2, e3, e4) (simp (chain, y0, z1, y1, y2, y3, z, rest, place-back s (8 + x1) t5))
+                  rw (e2, e3, e4) (simp (chain, y0, long, whole, y2, y3, z, rest, place-back s (8 + x1) inside))
 
 -- ---- its tests
 

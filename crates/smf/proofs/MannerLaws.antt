@@ -63,7 +63,11 @@ module _ (m : Manner) (W : ℕ → ℕ → Type 0) (same : (n : ℕ) → W n n) 
   unfolding PermittedTracks spellTracks layTracks layChunks
   tracks-within [] ss p = same 0
   tracks-within (t ∷ ts) [] p = absurd p
-  tracks-within (t ∷ ts) (s ∷ ss) p = rw (length-append (layChunks (s .before)) (layTrack t (s .events) ++ layTracks ts ss), length-append (layTrack t (s .events)) (layTracks ts ss), length-append (layTrack t (spellEvents m 0 noStatus t)) (layTracks ts (spellTracks m ts))) (more _ (length (layChunks (s .before))) _ (both _ _ _ _ (track-within t (s .events) (p .0)) (tracks-within ts ss (p .2))))
+  tracks-within (t ∷ ts) (s ∷ ss) p =
+      let chunks = length-append (layChunks (s .before)) (layTrack t (s .events) ++ layTracks ts ss) in
+      let tracks = length-append (layTrack t (s .events)) (layTracks ts ss) in
+      let ours = length-append (layTrack t (spellEvents m 0 noStatus t)) (layTracks ts (spellTracks m ts)) in
+      rw (chunks, tracks, ours) (more _ (length (layChunks (s .before))) _ (both _ _ _ _ (track-within t (s .events) (p .0)) (tracks-within ts ss (p .2))))
 
 -- either manner takes at most twice the bytes
 twice : (a b c d : ℕ) → a ≤ 2 * b → c ≤ 2 * d → a + c ≤ 2 * (b + d)

@@ -30,7 +30,7 @@ layChunks (c ∷ cs) = layChunk (c .tag) (c .holds) ++ layChunks cs
 unfoldable pub layTrack : List Event → List Spelling → List ℕ
 layTrack es ss = layChunk trackTag (layEvents 0 es ss)
 
--- "As many tracks as counted", before each the chunks that its spelling says
+-- "As many tracks as counted"; other chunks "may stand before, between or after the tracks", here those before each
 unfoldable pub layTracks : List (List Event) → List TrackSpelling → List ℕ
 layTracks [] ss = []
 layTracks (t ∷ ts) [] = []
@@ -40,14 +40,14 @@ layTracks (t ∷ ts) (s ∷ ss) = layChunks (s .before) ++ (layTrack t (s .event
 unfoldable pub layDivision : Division → List ℕ
 layDivision d = bigEndian 2 (d .pulses)
 
--- "`MThd`", the number of bytes that follow in the header, "then three 16-bit numbers, high byte first: format .., track count ..,
--- division", and the extra bytes; after it l
+-- "`MThd`", the number of its other bytes ("the header may be longer than 6"), "then three 16-bit numbers, high byte first: format ..,
+-- track count .., division", and "its extra bytes"; after it l
 unfoldable pub layHeader : ℕ → ℕ → Division → List ℕ → List ℕ → List ℕ
 layHeader format count division extra l =
     bigEndian 4 headerTag
     ++ (bigEndian 4 (6 + length extra) ++ (bigEndian 2 format ++ (bigEndian 2 count ++ (layDivision division ++ (extra ++ l)))))
 
--- "the header with the piece's format, number of tracks and division", then the tracks, then the chunks behind them
+-- "the header with the piece's format, number of tracks and division", then the tracks, then the chunks after the last
 unfoldable pub layPiece : Piece → PieceSpelling → List ℕ
 layPiece p s =
     layHeader (p .format) (length (p .tracks)) (p .division) (s .extra) (layTracks (p .tracks) (s .tracks) ++ layChunks (s .behind))

@@ -1,5 +1,5 @@
--- The spelling of a piece: one for each event of each track, and no more; the bytes of the header past the sixth; and the chunks with
--- other tags that stand before each track and after the last one.
+-- The spelling of a piece: one for each event of each track, and no more. "Demand 3's spellings gain these bytes": the header's extra
+-- bytes, and the chunks with other tags before each track and after the last one.
 use Prim.Native.Nat.{ℕ, _+_, _≤_}
 use mathlib.Core.List.{List, [], _∷_}
 use lib.ListN.{length}
@@ -15,7 +15,7 @@ pub record TrackSpelling : Type 0 where
   pub before : List Chunk
   pub events : List Spelling
 
--- of a piece: the header's bytes past the sixth, its tracks, the chunks after the last of them
+-- of a piece: the header's extra bytes, its tracks, the chunks after the last of them
 pub record PieceSpelling : Type 0 where
   pub extra : List ℕ
   pub tracks : List TrackSpelling

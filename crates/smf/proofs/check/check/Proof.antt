@@ -2,7 +2,7 @@ use Rattle.event.proofs.BytesLaws.{bytes-of}
 use Rattle.smf.proofs.DemandLaws.{judged}
 use Rattle.smf.proofs.VerdictLaws.{head-at, file-long, file-head, file-tracks, file-behind}
 use native.Mathlib.Omega.{arith}
-use mathlib.Core.Path.{_≡_, sym, _∙_}
+use mathlib.Core.Path.{sym, _∙_}
 use borrow.Author.Needs.{needs}
 use Rattle.smf.proofs.check.check.Statement.{statement}
 use Rattle.smf.proofs.check.check.Tie as tie

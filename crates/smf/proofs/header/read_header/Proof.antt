@@ -1,6 +1,6 @@
 use Rattle.smf.proofs.HeaderLaws.{head-short, head-tag, head-size, head-past, head-format, head-count, head-division, head-fine}
 use native.Mathlib.Omega.{arith}
-use mathlib.Core.Path.{_≡_, sym, _∙_}
+use mathlib.Core.Path.{sym, _∙_}
 use borrow.Author.Needs.{needs}
 use Rattle.smf.proofs.header.read_header.Statement.{statement}
 use Rattle.smf.proofs.header.read_header.Tie as tie
