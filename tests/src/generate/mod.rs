@@ -8,6 +8,8 @@
 //! - `room(rng, needed)`: a size of lent room, now and then too small (14).
 //! - `piece(rng)`, `spelling(rng, piece)`: good pieces and permitted spellings, half of
 //!   them with a longer header or unknown chunks.
+//! - `good_file(rng)`, `plain_file(rng)`: good files, those of the second without unknown
+//!   chunks and with a header of 14 bytes.
 //! - `varied_text(rng, piece)`: a text of the piece, spelled loosely.
 //! - `many_tracks_case(seed)`: a file of many tracks and few Times, for the fold; many
 //!   seeds together meet 0, 14, 31, 32 and 33.
