@@ -10,15 +10,17 @@ use borrow.Author.Tests.{le-leb, lt-leb}
 use Rattle.event.specs.Bytes.{Bytes}
 use Rattle.event.specs.Manner.{short}
 use Rattle.event.specs.Outcome.{Outcome, ok, refused, check, Readable, valueOr}
+use Rattle.smf.specs.Division.{LawfulDivision, bits, divisionOf}
 use Rattle.smf.specs.Piece.{Piece}
 use Rattle.smf.specs.Layout.{layHeader, layChunks, layTracks, layPiece}
 use Rattle.smf.specs.Manner.{spellTracks, spelling, fileOf}
 use Rattle.smf.specs.Reader.{readHeader, readFile}
-use Rattle.smf.specs.Step.{headerStep}
+use Rattle.smf.specs.Step.{divisionFrom, headerStep}
 use Rattle.smf.specs.declared.Answer.{Answer}
 use Rattle.smf.specs.declared.Division.{Division}
 use Rattle.smf.specs.declared.HeaderStep.{HeaderStep}
 use Rattle.smf.specs.declared.HeaderStep.the-variants.{Fields}
+use Rattle.smf.proofs.DivisionLaws.{division-back, division-fits}
 use Rattle.smf.proofs.AcceptedLaws.{AcceptedFile, headed, file-accepted, file-readable, accepted-file}
 use Rattle.smf.proofs.ListLaws.{R, Accepted}
 use Rattle.smf.proofs.RefusalLaws.{judged-refused}
@@ -74,6 +76,12 @@ module _ (f : List ℕ) (bs : Bytes f) {v : Answer} (judged : v ≡ verdict (rea
 
   pub short-enough : length f ≤ 1048576
   short-enough = file .short
+
+  pub lawful-division : LawfulDivision (divisionFrom d)
+  lawful-division = headed f a b d n bs head there .lawful
+
+  pub small-bits : (m : ℕ) → m ≡ bits (divisionFrom d) → m ≤ 65535
+  small-bits m e = omega (arith, e, division-fits (divisionFrom d) lawful-division)
 
   pub tracks-readable : Readable (R f b n)
   unfolding Readable
@@ -133,28 +141,29 @@ module _ (f : List ℕ) (bs : Bytes f) {v : Answer} (judged : v ≡ verdict (rea
               found (stopped p g) = let z = ap (λ (y : Answer). y .number) (sym (e ∙ ap lookAnswer (g ℕ fine))) ∙ h in absurd (omega (arith, z))
               found (through g) = looked ∙ g Piece Z
 
-          file-is : fileIn (d .0) (foldedTrack (valueOr [] (R f b n))) ≡ fileOf short (foldedPiece P)
+          file-is : (m : ℕ) → m ≡ bits (divisionFrom d) → fileIn m (foldedTrack (valueOr [] (R f b n))) ≡ fileOf short (foldedPiece P)
           unfolding fileOf layPiece spelling foldedPiece layTracks layChunks spellTracks valueOr
-          file-is =
+          file-is m e =
               let same = headed f a b d n bs head there in
+              let division : divisionOf m ≡ P .division = ap divisionOf e ∙ division-back (divisionFrom d) lawful-division ∙ sym (same .division) in
               let tracks : valueOr [] (R f b n) ≡ P .tracks = ap (valueOr []) (there .tracks) in
               let track = trackIn short (foldedTrack (P .tracks)) in
-              ap₂ (λ x y. layHeader 0 1 x [] (trackIn short (foldedTrack y))) (sym (same .division)) tracks
+              ap₂ (λ x y. layHeader 0 1 x [] (trackIn short (foldedTrack y))) division tracks
               ∙ ap (layHeader 0 1 (P .division) []) (sym (append-nil (track ++ []) ∙ append-nil track))
 
-          pub promise-kept : (w : Answer) → w ≡ lookAnswer (severalFree b (placedFrom f b n) fine) → w .number ≡ 0 → (new ps′ ts′ ss′ : List ℕ)
-              → r ≡ writeAnswer (length old) (length (fileIn (d .0) (foldedTrack (valueOr [] (R f b n)))))
-              → new ≡ writeLeaves (fileIn (d .0) (foldedTrack (valueOr [] (R f b n)))) old
+          pub promise-kept : (w : Answer) → w ≡ lookAnswer (severalFree b (placedFrom f b n) fine) → w .number ≡ 0 → (m : ℕ) → m ≡ bits (divisionFrom d) → (new ps′ ts′ ss′ : List ℕ)
+              → r ≡ writeAnswer (length old) (length (fileIn m (foldedTrack (valueOr [] (R f b n)))))
+              → new ≡ writeLeaves (fileIn m (foldedTrack (valueOr [] (R f b n)))) old
               → ps′ ≡ endsShown placeShown (placedFrom f b n) ++ drop b ps → ts′ ≡ endsShown timeShown (placedFrom f b n) ++ drop b ts → ss′ ≡ endsShown statusShown (placedFrom f b n) ++ drop b ss
               → Promised X f old ps ts ss r new ps′ ts′ ss′
           unfolding shortAnswer shortLeaves rowsLeave valueOr Readable
-          promise-kept w e h new ps′ ts′ ss′ r1 r2 r3 r4 r5 =
+          promise-kept w e h m q new ps′ ts′ ss′ r1 r2 r3 r4 r5 =
               let same : tracksOf (placedFrom f b n) ≡ valueOr [] (R f b n) = tracks-placed f b n bs tracks-readable in
               let size : length (placedFrom f b n) ≡ b = sym (length-map (placedFrom f b n) eventsOf) ∙ ap length same ∙ ap (λ z. length (valueOr [] z)) (there .tracks) ∙ there .count in
               let rows-are : (g : Placed → ℕ) (l : List ℕ) → endsShown g (placedFrom f b n) ++ drop b l ≡ endsShown g (placedFile f) ++ drop (length (placedFile f)) l =
               λ g l. ap (λ z. endsShown g (placedFrom f b n) ++ drop z l) (sym size) ∙ ap (λ z. endsShown g z ++ drop (length z) l) (sym placed-are)
               in
               rw (none-found w e h) (
-                r1 ∙ ap (λ z. writeAnswer (length old) (length z)) file-is,
-                (r2 ∙ ap (λ z. writeLeaves z old) file-is, (r3 ∙ rows-are placeShown ps, (r4 ∙ rows-are timeShown ts, r5 ∙ rows-are statusShown ss))),
+                r1 ∙ ap (λ z. writeAnswer (length old) (length z)) (file-is m q),
+                (r2 ∙ ap (λ z. writeLeaves z old) (file-is m q), (r3 ∙ rows-are placeShown ps, (r4 ∙ rows-are timeShown ts, r5 ∙ rows-are statusShown ss))),
               )

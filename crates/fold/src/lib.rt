@@ -68,8 +68,8 @@ pub fn fold(
             if number != 0 {
                 return found;
             }
-            let pulses = division.0;
-            write::put_measured(out, places, times, statuses, file, tracks, next, pulses)
+            let bits = smf::header::division_bits(division);
+            write::put_measured(out, places, times, statuses, file, tracks, next, bits)
         }
     }
 }

@@ -48,16 +48,16 @@ fn put_file(
     file: &[u8],
     count: usize,
     first: usize,
-    pulses: u32,
+    bits: u32,
 ) -> usize
-    requires { ⌜ length (now file) ≤ 1048576 ⌝ ∗ ⌜ TracksRead (now file) count first ⌝ ∗ ⌜ RowsFor count (now places) (now times) (now statuses) ⌝ }
-    ensures { λ r. ⌜ Written (now (out .entry)) 0 (fileIn pulses (trackOf (now (file .entry)) count first)) (now (out .exit)) r ⌝ ∗ ⌜ now (places .exit) ≡ showing placeShown (now (file .entry)) count first (now (places .entry)) ⌝ ∗ ⌜ now (times .exit) ≡ showing timeShown (now (file .entry)) count first (now (times .entry)) ⌝ ∗ ⌜ now (statuses .exit) ≡ showing statusShown (now (file .entry)) count first (now (statuses .entry)) ⌝ }
+    requires { ⌜ bits ≤ 65535 ⌝ ∗ ⌜ length (now file) ≤ 1048576 ⌝ ∗ ⌜ TracksRead (now file) count first ⌝ ∗ ⌜ RowsFor count (now places) (now times) (now statuses) ⌝ }
+    ensures { λ r. ⌜ Written (now (out .entry)) 0 (fileIn bits (trackOf (now (file .entry)) count first)) (now (out .exit)) r ⌝ ∗ ⌜ now (places .exit) ≡ showing placeShown (now (file .entry)) count first (now (places .entry)) ⌝ ∗ ⌜ now (times .exit) ≡ showing timeShown (now (file .entry)) count first (now (times .entry)) ⌝ ∗ ⌜ now (statuses .exit) ≡ showing statusShown (now (file .entry)) count first (now (statuses .entry)) ⌝ }
 {
     let a = put_four(out, 0, HEADER_TAG);
     let b = put_four(out, a, 6);
     let c = put_two(out, b, 0);
     let d = put_two(out, c, 1);
-    let e = put_two(out, d, pulses);
+    let e = put_two(out, d, bits);
     put_track(out, places, times, statuses, e, file, count, first)
 }
 
@@ -70,10 +70,10 @@ pub fn put_measured(
     file: &[u8],
     count: usize,
     first: usize,
-    pulses: u32,
+    bits: u32,
 ) -> Answer
-    requires { ⌜ length (now file) ≤ 1048576 ⌝ ∗ ⌜ TracksRead (now file) count first ⌝ ∗ ⌜ RowsFor count (now places) (now times) (now statuses) ⌝ }
-    ensures { λ r. ⌜ r ≡ writeAnswer (length (now (out .entry))) (length (fileIn pulses (trackOf (now (file .entry)) count first))) ⌝ ∗ ⌜ now (out .exit) ≡ writeLeaves (fileIn pulses (trackOf (now (file .entry)) count first)) (now (out .entry)) ⌝ ∗ ⌜ now (places .exit) ≡ showing placeShown (now (file .entry)) count first (now (places .entry)) ⌝ ∗ ⌜ now (times .exit) ≡ showing timeShown (now (file .entry)) count first (now (times .entry)) ⌝ ∗ ⌜ now (statuses .exit) ≡ showing statusShown (now (file .entry)) count first (now (statuses .entry)) ⌝ }
+    requires { ⌜ bits ≤ 65535 ⌝ ∗ ⌜ length (now file) ≤ 1048576 ⌝ ∗ ⌜ TracksRead (now file) count first ⌝ ∗ ⌜ RowsFor count (now places) (now times) (now statuses) ⌝ }
+    ensures { λ r. ⌜ r ≡ writeAnswer (length (now (out .entry))) (length (fileIn bits (trackOf (now (file .entry)) count first))) ⌝ ∗ ⌜ now (out .exit) ≡ writeLeaves (fileIn bits (trackOf (now (file .entry)) count first)) (now (out .entry)) ⌝ ∗ ⌜ now (places .exit) ≡ showing placeShown (now (file .entry)) count first (now (places .entry)) ⌝ ∗ ⌜ now (times .exit) ≡ showing timeShown (now (file .entry)) count first (now (times .entry)) ⌝ ∗ ⌜ now (statuses .exit) ≡ showing statusShown (now (file .entry)) count first (now (statuses .entry)) ⌝ }
 {
     let need = put_file(
         &mut out[..0],
@@ -83,7 +83,7 @@ pub fn put_measured(
         file,
         count,
         first,
-        pulses,
+        bits,
     );
     if FILE_LIMIT < need {
         return Answer::refusal(29, 0);
@@ -91,6 +91,6 @@ pub fn put_measured(
     if out.len() < need {
         return Answer::room_needed(need);
     }
-    put_file(out, places, times, statuses, file, count, first, pulses);
+    put_file(out, places, times, statuses, file, count, first, bits);
     Answer::success(need)
 }

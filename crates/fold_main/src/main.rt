@@ -92,6 +92,8 @@ fn main() {
     with_much_room(b"one_track.mid");
     // The two tracks again, with other chunks round them: the places are those in this file.
     with_much_room(b"other_chunks.mid");
+    // And with a division of 25 frames of 40 ticks, which is kept.
+    with_much_room(b"film_division.mid");
     // Refused for other reasons, in the order in which they are tried: rows and room stay.
     with_much_room(b"after_end_track.mid");
     with_much_room(b"format2.mid");

@@ -14,10 +14,11 @@ use Rattle.event.specs.Reader.{readMore, readVlq, readData, readNumber, dataByt
 use Rattle.event.specs.Manner.{statusIn, restIn, spellEvent}
 use Rattle.smf.specs.Layout.{layChunk, layChunks, layEvents, layTrack, layTracks, layDivision, layHeader, layPiece}
 use Rattle.smf.specs.Manner.{spellEvents, spellTracks, spelling, fileOf}
+use Rattle.smf.specs.Division.{rateOk, inRange, bits, divisionOf, divisionOk}
 use Rattle.smf.specs.Piece.{tracksFit}
 use Rattle.smf.specs.Step.{lastTime}
 use Rattle.smf.specs.Listing.{endTimes}
-use Rattle.smf.specs.Reader.{ended, goOn, readEvents, readAll, readHead, findTrack, readChunk, readTrack, readTracks, countOk, divisionOk, readHeader, passOver, readBehind, readPiece, readFile}
+use Rattle.smf.specs.Reader.{ended, goOn, readEvents, readAll, readHead, findTrack, readChunk, readTrack, readTracks, countOk, readHeader, passOver, readBehind, readPiece, readFile}
 use Rattle.smf.specs.Answer.{success, refusal, roomNeeded}
 use Rattle.smf.specs.Walk.{behind, walkOn, stepped, walked, walkedBody, placedOf}
 use Rattle.smf.specs.PlacedFile.{foundTrack, placedTracks, placedAfter, placedFile}
@@ -38,7 +39,7 @@ pub record WorkedFold : Type 0 where
   pub format-2 : foldAnswer 37 2 formatTwo ≡ refusal 32 8
 
 pub worked-fold : WorkedFold
-unfolding readFile readPiece readTracks readTrack readChunk findTrack readHead readHeader readNumber readData number horner countOk tracksFit divisionOk readBehind passOver readAll readEvents readEvent goOn ended isEnd andThen check placed pick readVlq readMore readFrame channelData isChannel oneData twoData dataByte readMeta readMetaOf metaData oneByte after kindOf lengthOk valueOk kindIn kind2 metaOf frame bigEndian bytesOnto fileOf spelling spellTracks spellEvents spellEvent restIn statusIn least layPiece layHeader layDivision layTracks layTrack layChunks layChunk layEvents layEvent layFrame layChannel vlq lastTime endTimes behind walkOn stepped walked walkedBody placedOf foundTrack placedTracks placedAfter placedFile writeAnswer writeLeaves shortAnswer shortLeaves others joined insert byTime greatest foldedTrack foldedPiece isPrefixOrPort trackFree tracksFree severalFree foldTested foldOutcome lastPlaced endsShown rowsLeave
+unfolding readFile readPiece readTracks readTrack readChunk findTrack readHead readHeader readNumber readData number horner countOk tracksFit rateOk inRange bits divisionOf divisionOk readBehind passOver readAll readEvents readEvent goOn ended isEnd andThen check placed pick readVlq readMore readFrame channelData isChannel oneData twoData dataByte readMeta readMetaOf metaData oneByte after kindOf lengthOk valueOk kindIn kind2 metaOf frame bigEndian bytesOnto fileOf spelling spellTracks spellEvents spellEvent restIn statusIn least layPiece layHeader layDivision layTracks layTrack layChunks layChunk layEvents layEvent layFrame layChannel vlq lastTime endTimes behind walkOn stepped walked walkedBody placedOf foundTrack placedTracks placedAfter placedFile writeAnswer writeLeaves shortAnswer shortLeaves others joined insert byTime greatest foldedTrack foldedPiece isPrefixOrPort trackFree tracksFree severalFree foldTested foldOutcome lastPlaced endsShown rowsLeave
 worked-fold =
     record {
       answer = refl;

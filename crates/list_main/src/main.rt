@@ -45,6 +45,7 @@ fn main() {
     list_file(b"example.mid");
     list_file(b"three_tracks.mid");
     list_file(b"other_chunks.mid");
+    list_file(b"film_division.mid");
     list_file(b"further_track.mid");
     list_file(b"format2.mid");
     list_file(b"five_tracks.mid");

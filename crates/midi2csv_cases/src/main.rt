@@ -16,6 +16,7 @@ fn convert_file(path: &[u8]) {
 fn main() {
     convert_file(b"empty.mid");
     convert_file(b"film_division.mid");
+    convert_file(b"rate_26.mid");
     convert_file(b"after_end_track.mid");
     convert_file(b"other_chunks.mid");
     convert_file(b"further_track.mid");

@@ -13,7 +13,7 @@ use Rattle.event.specs.Spelling.{Rest, leftOut, lengthIn, Spelling, Spelled, Pe
 use Rattle.event.specs.Layout.{layChannel, layFrame, layEvent}
 use Rattle.event.proofs.NumberLaws.{vlq-size}
 use Rattle.event.proofs.BytesLaws.{length-bigEndian}
-use Rattle.smf.specs.Piece.{Piece, Ends, LawfulEvents, LawfulTracks, LawfulDivision, LawfulPiece}
+use Rattle.smf.specs.Piece.{Piece, Ends, LawfulEvents, LawfulTracks, LawfulPiece}
 use Rattle.smf.specs.Spelling.{TrackSpelling, PermittedEvents, PermittedTracks}
 use Rattle.smf.specs.Layout.{layChunk, layEvents, layTrack, layTracks, layHeader, layDivision, layPiece, LaidOut}
 use Rattle.midicsv.specs.Field.{decimal, digitsOf}
@@ -21,7 +21,7 @@ use Rattle.midicsv.specs.Show.{Form, asText, asSheet}
 use Rattle.midicsv.specs.Table.{words, start-track, end-of-file, event, eventSpelled, spelled, eventShape, shape}
 use Rattle.midicsv.specs.Record.{Record, recordLine, nameOf, valuesOf}
 use Rattle.midicsv.specs.Text.{mark, eventRecord, eventRecords, trackRecords, headerRecord, pieceRecords, recordsText, writtenAs, most}
-use Rattle.midicsv.proofs.RowLaws.{InColumn, InColumns, InTail, rowed}
+use Rattle.midicsv.proofs.RowLaws.{InColumns, InTail, rowed, header-rowed}
 use Rattle.midicsv.proofs.LineBoundLaws.{gapCost, columnCost, columnsCost, tailCost, cost, record-cost}
 
 -- ---- each kind of event
@@ -180,8 +180,8 @@ unfolding cost gapCost spelled shape columnsCost tailCost InColumns InTail
 end-bound w = omega (arith, record-cost w (mark end-of-file 0) (omega arith) tt refl, gap-small w)
 
 pub header-bound : (w : Form) (p : Piece) → LawfulPiece p → length (recordLine w (headerRecord p)) + 1 ≤ 100
-unfolding cost gapCost spelled shape columnsCost columnCost tailCost decimal digitsOf pick headerRecord InColumns InColumn InTail LawfulDivision
-header-bound w p l = omega (arith, record-cost w (headerRecord p) (omega arith) (omega (arith, l .format, l .some, l .few, l .division)) refl, gap-small w)
+unfolding cost gapCost spelled shape columnsCost columnCost tailCost decimal digitsOf pick headerRecord InTail
+header-bound w p l = omega (arith, record-cost w (headerRecord p) (omega arith) (header-rowed p l) refl, gap-small w)
 
 pub tracks-bound : (w : Form) (n : ℕ) (ts : List (List Event)) (ss : List TrackSpelling) → n + length ts ≤ 65536 → LawfulTracks ts → PermittedTracks ts ss
     → length (recordsText w (trackRecords n ts)) ≤ most w (length (layTracks ts ss))

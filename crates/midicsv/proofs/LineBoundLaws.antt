@@ -6,17 +6,18 @@ use mathlib.Core.Logic.{inl, inr}
 use native.Mathlib.Omega.{arith}
 use lib.ListN.{length, length-append}
 use lib.Dec.{ltb, eqb}
-use borrow.Author.Tests.{lt-ltb, le-ltb, ltb-false}
+use borrow.Author.Tests.{le-leb, lt-leb, lt-ltb, le-ltb, ltb-false}
 use Rattle.event.specs.Choice.{pick}
 use Rattle.event.specs.Bytes.{Bytes}
 use Rattle.event.proofs.ChoiceLaws.{by-test}
+use Rattle.smf.proofs.DivisionLaws.{EitherKind, division-kinds}
 use Rattle.midicsv.specs.Field.{bytes, digitsOf, decimal, inOctal, escape, escapeAll, Field}
 use Rattle.midicsv.specs.Names.{lower, sameName}
 use Rattle.midicsv.specs.ReadField.{isLetter}
 use Rattle.midicsv.specs.TruthWords.{truthWords}
 use Rattle.midicsv.specs.Spell.{orOctal, isSolid, standsInside, standsLast, unblanked, listed, isTruth, spellRest, spellShort, spellText}
 use Rattle.midicsv.specs.Show.{Form, asText, asSheet, gap, spellIn, quote, show, further, lineOf}
-use Rattle.midicsv.specs.Table.{RecordName, spelled, Column, range, key, mode, freeType, Tail, none, oneText, sized, shape}
+use Rattle.midicsv.specs.Table.{RecordName, spelled, Column, range, key, mode, freeType, division, Tail, none, oneText, sized, shape}
 use Rattle.midicsv.specs.Record.{Record, columnField, dataFields, tailFields, fieldsOf, recordLine}
 use Rattle.midicsv.proofs.FieldLaws.{digits-most, decimal-length, quote-length}
 use Rattle.midicsv.proofs.RowLaws.{InColumn, InColumns, InTail}
@@ -51,6 +52,10 @@ pub key-cost : (n : ℕ) → n ≤ 7 → length (decimal n) ≤ 1
 unfolding decimal digitsOf pick
 key-cost n h = omega (arith, decimal-mono n 7 h)
 
+frames-cost : (n : ℕ) → n ≤ 9999 → length (decimal n) ≤ 4
+unfolding decimal digitsOf pick
+frames-cost n h = omega (arith, decimal-mono n 9999 h)
+
 -- ---- fields
 
 -- the bytes between two fields
@@ -63,6 +68,7 @@ columnCost (range lo hi) = length (decimal hi)
 columnCost key = 2
 columnCost mode = 7
 columnCost freeType = 3
+columnCost division = 5
 
 unfoldable pub columnsCost : Form → List Column → ℕ
 columnsCost w [] = 0
@@ -98,6 +104,11 @@ mode-cost : (w : Form) (m : ℕ) → length (show w (columnField mode m)) ≤ 7
 unfolding pick
 mode-cost w m = rw (mode-shown w m) (by-test (eqb m 0) (λ t. rw t (omega arith)) (λ t. rw t (omega arith)))
 
+division-cost : (w : Form) (n : ℕ) → EitherKind n → length (show w (columnField division n)) ≤ 5
+unfolding show columnField pick
+division-cost w n (inl h) = rw (le-leb n 32767 (h .1)) (track-cost n (omega arith))
+division-cost w n (inr h) = rw (lt-leb n 32767 (omega arith)) (omega (arith, frames-cost (65536 - n) (omega arith)))
+
 column-cost : (w : Form) (c : Column) (n : ℕ) → InColumn c n → length (show w (columnField c n)) ≤ columnCost c
 unfolding InColumn show columnField columnCost pick
 column-cost w (range lo hi) n h = decimal-mono n hi (h .1)
@@ -105,6 +116,7 @@ column-cost w key b (inl h) = rw (lt-ltb b 8 h) (omega (arith, key-cost b (omega
 column-cost w key b (inr h) = rw (le-ltb b 8 (omega arith)) (omega (arith, key-cost (256 - b) (omega arith)))
 column-cost w mode m h = mode-cost w m
 column-cost w freeType t h = byte-cost t (omega arith)
+column-cost w division n h = division-cost w n (division-kinds n h)
 
 data-text : (d : List ℕ) → Bytes d → length (further asText (dataFields d)) ≤ 5 * length d
 unfolding further dataFields show gap

@@ -8,7 +8,9 @@ use lib.ListN.{length, length-append}
 use borrow.Author.Tests.{le-leb, lt-ltb, eq-eqb}
 use Rattle.event.specs.Outcome.{Outcome, ok}
 use Rattle.event.specs.Event.{Event, isEnd}
+use Rattle.smf.specs.Division.{LawfulDivision}
 use Rattle.smf.specs.Piece.{Piece, Header, Ends}
+use Rattle.smf.proofs.DivisionLaws.{division-back}
 use Rattle.midicsv.specs.Table.{start-track, end-of-file}
 use Rattle.midicsv.specs.Record.{Record}
 use Rattle.midicsv.specs.Text.{mark, eventRecord, eventRecords, trackRecords, headerRecord, pieceRecords}
@@ -83,9 +85,9 @@ tracks-run h ts (t ∷ us) rest x n l c k =
 abbrev pub headOf : Piece → Header
 headOf p = record { format = p .format; count = length (p .tracks); division = p .division }
 
-pub header-step : (p : Piece) → step first (headerRecord p) ≡ good (between (headOf p) [])
+pub header-step : (p : Piece) → LawfulDivision (p .division) → step first (headerRecord p) ≡ good (between (headOf p) [])
 unfolding step stepOn takeHeader headerRecord test
-header-step p = refl
+header-step p h = ap (λ d. good (between (record { format = p .format; count = length (p .tracks); division = d }) [])) (division-back (p .division) h)
 
 pub end-step : (p : Piece) → step (between (headOf p) (p .tracks)) (mark end-of-file 0) ≡ good (finished p)
 unfolding step stepOn takeEnd
@@ -95,7 +97,7 @@ pub end-run : (p : Piece) (n : ℕ) → runRecords (mark end-of-file 0 ∷ []) (
 unfolding runRecords ended
 end-run p n = advance-eq n _ (end-step p)
 
-pub piece-run : (p : Piece) (n : ℕ) → LayableTracks (p .tracks) → runRecords (pieceRecords p) first n ≡ ok p []
+pub piece-run : (p : Piece) (n : ℕ) → LawfulDivision (p .division) → LayableTracks (p .tracks) → runRecords (pieceRecords p) first n ≡ ok p []
 unfolding pieceRecords runRecords
-piece-run p n l =
-    advance-eq n _ (header-step p) ∙ tracks-run (headOf p) [] (p .tracks) _ (ok p []) (suc n) l (omega arith) (λ m. end-run p m)
+piece-run p n d l =
+    advance-eq n _ (header-step p d) ∙ tracks-run (headOf p) [] (p .tracks) _ (ok p []) (suc n) l (omega arith) (λ m. end-run p m)

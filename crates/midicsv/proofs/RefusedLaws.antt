@@ -12,12 +12,12 @@ use Rattle.event.proofs.ChoiceLaws.{by-test}
 use Rattle.event.proofs.RefusalLaws.{Given, Fair, then-fair, check-fair, pick-fair}
 use Rattle.smf.specs.Piece.{Piece}
 use Rattle.midicsv.specs.Field.{Field, num, minus, name, quoted}
-use Rattle.midicsv.specs.Table.{RecordName, header, start-track, end-of-file, event, Column, range, key, mode, freeType, Tail, none, oneText, sized}
+use Rattle.midicsv.specs.Table.{RecordName, header, start-track, end-of-file, event, Column, range, key, mode, freeType, division, Tail, none, oneText, sized}
 use Rattle.midicsv.specs.Record.{Record, Values}
 use Rattle.midicsv.specs.Result.{Result, good, bad, next, test}
 use Rattle.midicsv.specs.ReadField.{isDigit, isLetter, skip, push, readDigits, readNumber, negative, Seen, plain, aQuote, aSlash, octal1, octal2, readQuoted, readName, atComma, finish, fieldOf, readField, onward, readFields, allFields}
 use Rattle.midicsv.specs.Names.{find, nameFrom, allNames}
-use Rattle.midicsv.specs.ReadRecord.{sizeOf, counted, readColumn, readBytes, readText, readTail, readColumns, withValues, recordOf, ofFields, readLine}
+use Rattle.midicsv.specs.ReadRecord.{sizeOf, counted, signedBits, readColumn, readBytes, readText, readTail, readColumns, withValues, recordOf, ofFields, readLine}
 use Rattle.midicsv.specs.Lines.{onto, linesOf, trimmed, passedOver}
 use Rattle.midicsv.specs.Order.{State, first, between, inside, finished, takeHeader, takeStart, takeEnd, takeEvent, stepOn, step}
 use Rattle.midicsv.specs.PieceOfText.{Told, skipped, told, framed, tellLine, stepTold, advance, ended, runLines, pieceTold, pieceOfText}
@@ -140,6 +140,13 @@ counted-named k none fs m h = test-named _ 24 _ (omega arith) h
 counted-named k oneText fs m h = test-named _ 24 _ (omega arith) h
 counted-named k sized fs m h = test-named _ 24 _ (omega arith) (next-named _ _ (size-named _) (λ n. test-named _ 24 _ (omega arith) h))
 
+signed-named : (f : Field) → Named (signedBits f)
+unfolding signedBits
+signed-named (num n) = test-named _ 25 _ (omega arith) tt
+signed-named (minus n) = test-named _ 25 _ (omega arith) tt
+signed-named (name s) = omega arith
+signed-named (quoted d) = omega arith
+
 column-named : (c : Column) (f : Field) → Named (readColumn c f)
 unfolding readColumn
 column-named (range lo hi) (num n) = test-named _ 25 _ (omega arith) tt
@@ -158,6 +165,7 @@ column-named freeType (num n) = test-named _ 25 _ (omega arith) tt
 column-named freeType (minus n) = omega arith
 column-named freeType (name s) = omega arith
 column-named freeType (quoted d) = omega arith
+column-named division f = next-named _ _ (signed-named f) (λ n. test-named _ 25 _ (omega arith) tt)
 
 bytes-named : (fs : List Field) → Named (readBytes fs)
 unfolding readBytes

@@ -12,10 +12,10 @@ use Rattle.event.specs.Bytes.{Bytes}
 use Rattle.event.specs.Meta.{MetaKind, sequenceKind, textKind, prefixKind, portKind, endKind, tempoKind, offsetKind, timeKind, keyKind, specificKind, unknownKind, kindOf}
 use Rattle.event.proofs.ChoiceLaws.{pick-cases, and-both}
 use Rattle.midicsv.specs.Field.{Field, num, minus, name, quoted}
-use Rattle.midicsv.specs.Table.{Column, range, key, mode, freeType, Tail, none, oneText, sized}
+use Rattle.midicsv.specs.Table.{Column, range, key, mode, freeType, division, Tail, none, oneText, sized}
 use Rattle.midicsv.specs.Record.{Values}
 use Rattle.midicsv.specs.Result.{Result, good}
-use Rattle.midicsv.specs.ReadRecord.{sizeOf, counted, sameBytes, isFree, readColumn, readBytes, readText, readTail, readColumns}
+use Rattle.midicsv.specs.ReadRecord.{sizeOf, counted, sameBytes, isFree, signedBits, readColumn, readBytes, readText, readTail, readColumns}
 use Rattle.midicsv.proofs.ResultLaws.{not-good, good-same, next-good, test-good}
 use Rattle.midicsv.proofs.RowLaws.{InColumn, InColumns, InTail}
 use Rattle.midicsv.proofs.FieldPartLaws.{Fine}
@@ -68,6 +68,10 @@ module _ (k : ℕ) where
   column-in freeType (minus m) n g e = not-good e
   column-in freeType (name s) n g e = not-good e
   column-in freeType (quoted d) n g e = not-good e
+  column-in division f n g e =
+      next-good (signedBits f) _ n e (λ m q z.
+      let (t, w) = test-good _ 25 _ n z in
+      rw (← (good-same w)) t)
 
   pub number-most : (lo hi : ℕ) (f : Field) (n : ℕ) → Fine k f → readColumn (range lo hi) f ≡ good n → n ≤ hi
   unfolding InColumn

@@ -6,16 +6,18 @@ use mathlib.Core.List.{List, [], _∷_}
 use mathlib.Core.Logic.{inl, inr}
 use native.Mathlib.Omega.{arith}
 use lib.ListN.{length, getD}
-use borrow.Author.Tests.{le-leb, lt-ltb, le-ltb, eq-eqb}
+use borrow.Author.Tests.{le-leb, lt-leb, lt-ltb, le-ltb, eq-eqb}
 use Rattle.event.specs.Choice.{pick}
 use Rattle.event.specs.Bytes.{Bytes}
 use Rattle.event.specs.Meta.{MetaKind, kindOf, unknownKind}
 use Rattle.event.proofs.ChoiceLaws.{pick-true, pick-false}
+use Rattle.smf.specs.Division.{divisionOk}
+use Rattle.smf.proofs.DivisionLaws.{EitherKind, division-kinds}
 use Rattle.midicsv.specs.Field.{num, minus}
-use Rattle.midicsv.specs.Table.{Column, range, key, mode, freeType, Tail, none, oneText, sized}
+use Rattle.midicsv.specs.Table.{Column, range, key, mode, freeType, division, Tail, none, oneText, sized}
 use Rattle.midicsv.specs.Record.{columnField, dataFields, tailFields, fieldsOf}
 use Rattle.midicsv.specs.Result.{Result, good}
-use Rattle.midicsv.specs.ReadRecord.{sizeOf, counted, sameBytes, isFree, readColumn, readBytes, readText, readTail, readColumns}
+use Rattle.midicsv.specs.ReadRecord.{sizeOf, counted, sameBytes, isFree, signedBits, readColumn, readBytes, readText, readTail, readColumns}
 use Rattle.midicsv.proofs.RowLaws.{InColumn, InColumns, InTail}
 use Rattle.midicsv.proofs.ResultLaws.{next-eq, test-eq}
 use Rattle.midicsv.proofs.FieldReadLaws.{Good, AllGood}
@@ -42,6 +44,21 @@ pub free-is : (k : MetaKind) → k ≡ unknownKind → isFree k ≡ true
 unfolding isFree
 free-is k e = ap isFree e
 
+-- the field of a division's bits, of either kind
+division-read : (n : ℕ) → divisionOk n ≡ true → EitherKind n → readColumn division (columnField division n) ≡ good n
+unfolding readColumn signedBits columnField
+division-read n h (inl k) =
+    rw (pick-true (num n) (minus (65536 - n)) (le-leb n 32767 (k .1))) (next-eq _ (test-eq 25 _ (le-leb n 32767 (k .1))) ∙ test-eq 25 _ h)
+division-read n h (inr k) =
+    let back : 65536 - (65536 - n) ≡ n = omega arith in
+    rw (pick-false (num n) (minus (65536 - n)) (lt-leb n 32767 (omega arith)))
+    (next-eq _ (test-eq 25 _ (le-leb (65536 - n) 32768 (omega arith)) ∙ ap good back) ∙ test-eq 25 _ h)
+
+division-good : (n : ℕ) → EitherKind n → Good (columnField division n)
+unfolding columnField Good
+division-good n (inl k) = rw (pick-true (num n) (minus (65536 - n)) (le-leb n 32767 (k .1))) (omega arith)
+division-good n (inr k) = rw (pick-false (num n) (minus (65536 - n)) (lt-leb n 32767 (omega arith))) (omega arith)
+
 pub column-read : (c : Column) (n : ℕ) → InColumn c n → readColumn c (columnField c n) ≡ good n
 unfolding InColumn readColumn columnField
 column-read (range lo hi) n h = number-in lo hi n (h .0) (h .1)
@@ -51,6 +68,7 @@ column-read key b (inr h) =
     rw (pick-false (num b) (minus (256 - b)) (le-ltb b 8 (omega arith))) (test-eq 25 _ (le-leb (256 - b) 7 (omega arith)) ∙ ap good back)
 column-read mode m h = mode-read m h
 column-read freeType t h = test-eq 25 _ (ap₂ _&&_ (le-leb t 127 (h .0)) (free-is (kindOf t) (h .1)))
+column-read division n h = division-read n h (division-kinds n h)
 
 pub column-good : (c : Column) (n : ℕ) → InColumn c n → Good (columnField c n)
 unfolding InColumn columnField Good
@@ -59,6 +77,7 @@ column-good key b (inl h) = rw (pick-true (num b) (minus (256 - b)) (lt-ltb b 8 
 column-good key b (inr h) = rw (pick-false (num b) (minus (256 - b)) (le-ltb b 8 (omega arith))) (omega arith)
 column-good mode m h = mode-good m h
 column-good freeType t h = omega arith
+column-good division n h = division-good n (division-kinds n h)
 
 -- ---- the tail
 

@@ -10,7 +10,8 @@ use borrow.Author.Tests.{leb-true, ltb-true, eqb-true}
 use Rattle.event.specs.Event.{Event, isEnd, Fits}
 use Rattle.event.specs.Frame.{frame}
 use Rattle.event.proofs.ChoiceLaws.{and-both}
-use Rattle.smf.specs.Piece.{Piece, Header, Ends, LawfulDivision, LawfulPiece}
+use Rattle.smf.specs.Piece.{Piece, Header, Ends, LawfulPiece}
+use Rattle.smf.proofs.DivisionLaws.{division-is}
 use Rattle.smf.proofs.FileLaws.{LawfulHeader, fit-is, piece-lawful}
 use Rattle.midicsv.specs.Table.{RecordName, header, start-track, end-of-file, event, spelled, shape}
 use Rattle.midicsv.specs.Record.{Values, Record}
@@ -65,7 +66,7 @@ state-more n m (finished p) h k = record { lawful = k .lawful; tracks = k .track
 -- ---- Header, Start_track, End_of_file
 
 header-ok : (n track time : ℕ) (ns : List ℕ) (s : State) → 14 ≤ n → InColumns (shape header .columns) ns → together header ns ≡ true → takeHeader track time ns ≡ good s → StateOk n s
-unfolding takeHeader StateOk shape InColumn together LawfulDivision LayableTracks mostAll
+unfolding takeHeader StateOk shape InColumn together LayableTracks mostAll
 header-ok n track time ns s l h g q =
     let (t, z) = test-good _ 26 _ s q in
     let a = nth-in _ ns 0 h (omega arith) in
@@ -79,7 +80,7 @@ header-ok n track time ns s l h g q =
             some = omega arith;
             few = omega arith;
             single = fit-is (getD ns 0 0) (getD ns 1 0) g;
-            division = omega arith;
+            division = division-is (getD ns 2 0) d;
           };
       tracks = tt;
       few = omega arith;

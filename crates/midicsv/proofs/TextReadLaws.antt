@@ -8,7 +8,7 @@ use lib.ListN.{length}
 use Rattle.event.specs.Outcome.{Outcome, ok}
 use Rattle.event.specs.Event.{Event, isEnd}
 use Rattle.event.proofs.ChoiceLaws.{pick-false}
-use Rattle.smf.specs.Piece.{Piece, Ends, LawfulDivision, LawfulPiece}
+use Rattle.smf.specs.Piece.{Piece, Ends, LawfulPiece}
 use Rattle.smf.specs.Layout.{LaidOut}
 use Rattle.smf.specs.Reader.{fileLimit}
 use Rattle.smf.proofs.FileLaws.{fit-yes}
@@ -23,7 +23,7 @@ use Rattle.midicsv.specs.Lines.{linesOf, passedOver}
 use Rattle.midicsv.specs.Order.{State, first, step}
 use Rattle.midicsv.specs.PieceOfText.{told, framed, tellLine, stepTold, advance, ended, runLines, pieceTold, pieceOfText, textLimit}
 use Rattle.midicsv.proofs.AllLaws.{All, Printable}
-use Rattle.midicsv.proofs.RowLaws.{InColumn, InColumns, InTail, rowed}
+use Rattle.midicsv.proofs.RowLaws.{InColumns, InTail, rowed, header-rowed}
 use Rattle.midicsv.proofs.BoundLaws.{written-bound}
 use Rattle.midicsv.proofs.DecimalReadLaws.{decimal-digits}
 use Rattle.midicsv.proofs.KnownLaws.{frames-known, kind-known}
@@ -123,13 +123,13 @@ tracks-sound n (t ∷ ts) h l =
     (start-sound n (omega arith), sound-append (eventRecords n t) (trackRecords (suc n) ts) (events-sound n 0 t (omega arith) (l .0)) (tracks-sound (suc n) ts (omega arith) (l .1)))
 
 pub header-sound : (p : Piece) → LawfulPiece p → Sound (headerRecord p)
-unfolding headerRecord shape together InColumns InColumn InTail LawfulDivision
+unfolding headerRecord shape together InTail
 header-sound p l =
     record {
       track = omega arith;
       time = omega arith;
       known = frames-known .first;
-      columns = omega (arith, l .format, l .some, l .few, l .division);
+      columns = header-rowed p l;
       tail = refl;
       small = omega arith;
       together = fit-yes (p .format) (length (p .tracks)) (l .single);
@@ -146,7 +146,7 @@ pub written-read : (w : Form) (f : List ℕ) (p : Piece) → LaidOut f p → pie
 unfolding pieceOfText pieceTold writtenAs
 written-read w f p l =
     let ls = tracks-layable (p .tracks) (l .spelling .tracks) (l .has .lawful .tracks) (l .has .permitted .tracks) in
-    lines-run w (pieceRecords p) first 1 (piece-sound p (l .has .lawful) ls) ∙ piece-run p 1 ls
+    lines-run w (pieceRecords p) first 1 (piece-sound p (l .has .lawful) ls) ∙ piece-run p 1 (l .has .lawful .division) ls
 
 -- "so 21 never meets our own text", nor our own sheet
 pub written-small : (w : Form) (f : List ℕ) (p : Piece) → LaidOut f p → length f ≤ fileLimit → length (writtenAs w p) ≤ textLimit

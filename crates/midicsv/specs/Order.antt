@@ -6,6 +6,7 @@ use mathlib.Core.List.{List, [], _∷_, _++_}
 use lib.ListN.{length, getD}
 use lib.Dec.{leb, ltb, eqb}
 use Rattle.event.specs.Event.{Event, isEnd}
+use Rattle.smf.specs.Division.{divisionOf}
 use Rattle.smf.specs.Piece.{Piece, Header}
 use Rattle.midicsv.specs.Table.{RecordName, header, start-track, end-of-file, event}
 use Rattle.midicsv.specs.Record.{Values, Record}
@@ -23,7 +24,7 @@ pub data State : Type 0 where
 unfoldable pub takeHeader : ℕ → ℕ → List ℕ → Result State
 takeHeader track time ns =
     test (eqb track 0 && eqb time 0) 26
-    (good (between (record { format = getD ns 0 0; count = getD ns 1 0; division = record { pulses = getD ns 2 0 } }) []))
+    (good (between (record { format = getD ns 0 0; count = getD ns 1 0; division = divisionOf (getD ns 2 0) }) []))
 
 -- "for each of the tracks it counts (more or fewer is 26), numbered 1, 2, .."
 unfoldable pub takeStart : Header → List (List Event) → ℕ → ℕ → Result State

@@ -8,9 +8,10 @@ use lib.Dec.{leb, ltb, eqb}
 use Rattle.event.specs.Choice.{pick}
 use Rattle.event.specs.Outcome.{Outcome, ok, refused}
 use Rattle.event.specs.Meta.{MetaKind, sequenceKind, textKind, prefixKind, portKind, endKind, tempoKind, offsetKind, timeKind, keyKind, specificKind, unknownKind, kindOf}
+use Rattle.smf.specs.Division.{divisionOk}
 use Rattle.smf.specs.Piece.{tracksFit}
 use Rattle.midicsv.specs.Field.{bytes, Field, num, minus, name, quoted}
-use Rattle.midicsv.specs.Table.{RecordName, header, start-track, end-of-file, event, Column, range, key, mode, freeType, Tail, none, oneText, sized, shape}
+use Rattle.midicsv.specs.Table.{RecordName, header, start-track, end-of-file, event, Column, range, key, mode, freeType, division, Tail, none, oneText, sized, shape}
 use Rattle.midicsv.specs.Record.{Values, Record}
 use Rattle.midicsv.specs.ReadField.{allFields}
 use Rattle.midicsv.specs.Result.{Result, good, bad, next, test}
@@ -56,7 +57,15 @@ isFree keyKind = false
 isFree specificKind = false
 isFree unknownKind = true
 
--- a number in its range; "−7..7", kept as its byte in the file; "`major` (0) or `minor` (1)"; a type up to 127 without a name
+-- "the 16 bits read as signed", from the number −32768..32767 that they are
+unfoldable pub signedBits : Field → Result ℕ
+signedBits (num n) = test (leb n 32767) 25 (good n)
+signedBits (minus n) = test (leb n 32768) 25 (good (65536 - n))
+signedBits (name s) = bad 25
+signedBits (quoted d) = bad 25
+
+-- a number in its range; "−7..7", kept as its byte in the file; "`major` (0) or `minor` (1)"; a type up to 127 without a name;
+-- the bits of a division: "25 for the division field, now only where it is of neither kind"
 unfoldable pub readColumn : Column → Field → Result ℕ
 readColumn (range lo hi) (num n) = test (leb lo n && leb n hi) 25 (good n)
 readColumn (range lo hi) (minus n) = bad 25
@@ -74,6 +83,7 @@ readColumn freeType (num n) = test (leb n 127 && isFree (kindOf n)) 25 (good n)
 readColumn freeType (minus n) = bad 25
 readColumn freeType (name s) = bad 25
 readColumn freeType (quoted d) = bad 25
+readColumn division f = next (signedBits f) (λ n. test (divisionOk n) 25 (good n))
 
 -- Data: "other data 0..255"
 unfoldable pub readBytes : List Field → Result (List ℕ)

@@ -2,13 +2,13 @@
 use Prim.Native.Nat.{ℕ, _-_}
 use mathlib.Core.List.{List, [], _∷_}
 use lib.ListN.{length}
-use lib.Dec.{ltb, eqb}
+use lib.Dec.{leb, ltb, eqb}
 use Rattle.event.specs.Choice.{pick}
 use Rattle.event.specs.Event.{Kind, noteOff, noteOn, polyAftertouch, control, program, channelAftertouch, pitchBend, systemExclusive, systemExclusivePacket, sequenceNumber, text, channelPrefix, midiPort, endTrack, tempo, smpteOffset, timeSignature, keySignature, sequencerSpecific, unknownMeta}
 use Rattle.event.specs.Frame.{keyByte}
 use Rattle.midicsv.specs.Field.{bytes, Field, num, minus, name, quoted}
 use Rattle.midicsv.specs.Show.{Form, lineOf}
-use Rattle.midicsv.specs.Table.{EventName, note-off, note-on, poly-aftertouch, control-change, program-change, channel-aftertouch, pitch-bend, system-exclusive, system-exclusive-packet, sequence-number, words, channel-prefix, midi-port, end-track, set-tempo, smpte-offset, time-signature, key-signature, sequencer-specific, unknown-meta, RecordName, spelled, Column, range, key, mode, freeType, Tail, none, oneText, sized, shape}
+use Rattle.midicsv.specs.Table.{EventName, note-off, note-on, poly-aftertouch, control-change, program-change, channel-aftertouch, pitch-bend, system-exclusive, system-exclusive-packet, sequence-number, words, channel-prefix, midi-port, end-track, set-tempo, smpte-offset, time-signature, key-signature, sequencer-specific, unknown-meta, RecordName, spelled, Column, range, key, mode, freeType, division, Tail, none, oneText, sized, shape}
 
 -- the numbers of the columns, and the bytes of the Text or Data
 pub record Values : Type 0 where
@@ -24,12 +24,13 @@ pub record Record : Type 0 where
 
 -- ---- how a record is written
 
--- "−7..7", from the byte; "`major` (0) or `minor` (1)"
+-- "−7..7", from the byte; "`major` (0) or `minor` (1)"; "the 16 bits read as signed"
 unfoldable pub columnField : Column → ℕ → Field
 columnField (range lo hi) n = num n
 columnField key b = pick (ltb b 8) (num b) (minus (256 - b))
 columnField mode m = pick (eqb m 0) (quoted (bytes "major")) (quoted (bytes "minor"))
 columnField freeType t = num t
+columnField division n = pick (leb n 32767) (num n) (minus (65536 - n))
 
 -- "Data..": a number for each byte
 unfoldable pub dataFields : List ℕ → List Field

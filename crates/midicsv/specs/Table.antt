@@ -51,10 +51,11 @@ spelled start-track = bytes "Start_track"
 spelled end-of-file = bytes "End_of_file"
 spelled (event g) = eventSpelled g
 
--- a number from lo to hi; a key −7..7, kept as its byte in the file; "major" (0) or "minor" (1); a meta type without a name of its own
+-- a number from lo to hi; a key −7..7, kept as its byte in the file; "major" (0) or "minor" (1); a meta type without a name of its own;
+-- a division, kept as its 16 bits in the file
 pub data Column : Type 0 where
   range : ℕ → ℕ → Column
-  key mode freeType : Column
+  key mode freeType division : Column
 
 -- what follows the columns: nothing, a Text, or "Length, Data.."
 pub data Tail : Type 0 where
@@ -106,7 +107,7 @@ eventShape unknown-meta = aLength (freeType ∷ [])
 
 -- "`0, 0, Header, format, tracks, division`", with the ranges of the file's header
 unfoldable pub shape : RecordName → Shape
-shape header = numbers (range 0 2 ∷ range 1 65535 ∷ range 1 32767 ∷ [])
+shape header = numbers (range 0 2 ∷ range 1 65535 ∷ division ∷ [])
 shape start-track = numbers []
 shape end-of-file = numbers []
 shape (event g) = eventShape g

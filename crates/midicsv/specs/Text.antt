@@ -3,6 +3,7 @@ use Prim.Native.Nat.{ℕ, suc, _*_}
 use mathlib.Core.List.{List, [], _∷_, _++_}
 use lib.ListN.{length}
 use Rattle.event.specs.Event.{Event}
+use Rattle.smf.specs.Division.{bits}
 use Rattle.smf.specs.Piece.{Piece}
 use Rattle.midicsv.specs.Table.{RecordName, header, start-track, end-of-file, event}
 use Rattle.midicsv.specs.Show.{Form, asText, asSheet}
@@ -26,10 +27,10 @@ unfoldable pub trackRecords : ℕ → List (List Event) → List Record
 trackRecords n [] = []
 trackRecords n (t ∷ ts) = mark start-track n ∷ (eventRecords n t ++ trackRecords (suc n) ts)
 
--- "`0, 0, Header, format, tracks, division`"
+-- "`0, 0, Header, format, tracks, division`", the division as its 16 bits
 unfoldable pub headerRecord : Piece → Record
 headerRecord p =
-    record { track = 0; time = 0; name = header; values = plain (p .format ∷ length (p .tracks) ∷ p .division .pulses ∷ []) }
+    record { track = 0; time = 0; name = header; values = plain (p .format ∷ length (p .tracks) ∷ bits (p .division) ∷ []) }
 
 -- "First .. Header; for each track ..; last `0, 0, End_of_file`"
 unfoldable pub pieceRecords : Piece → List Record

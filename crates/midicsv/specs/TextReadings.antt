@@ -4,6 +4,8 @@ use Prim.Native.Nat.{ℕ}
 use mathlib.Core.List.{List, [], _∷_, _++_}
 use Rattle.event.specs.Event.{keySignature, flats, unknownMeta, text, endTrack}
 use Rattle.event.specs.Outcome.{Outcome, ok, refused}
+use Rattle.smf.specs.Division.{pulses, frames}
+use Rattle.smf.specs.DivisionCases.{filmPiece}
 use Rattle.smf.specs.Piece.{Piece}
 use Rattle.smf.specs.Example.{examplePiece}
 use Rattle.midicsv.specs.Field.{bytes}
@@ -38,7 +40,7 @@ abbrev otherPiece : Piece
 otherPiece =
     record {
       format = 1;
-      division = record { pulses = 96 };
+      division = pulses 96;
       tracks =
           (record { time = 0; kind = keySignature (flats 3) 1 }
           ∷ record { time = 0; kind = text 1 (65 ∷ 92 ∷ 34 ∷ []) }
@@ -47,11 +49,34 @@ otherPiece =
           ∷ []) ∷ [];
     }
 
+-- the text of a piece of one track with End_track alone, with this field for its division
+abbrev pub filmText : List ℕ → List ℕ
+filmText field = bytes "0, 0, Header, 0, 1, " ++ (field ++ bytes "\n1, 0, Start_track\n1, 0, End_track\n0, 0, End_of_file\n")
+
 -- the table
 abbrev pub textReadings : List TextReading
 textReadings =
     reads exampleText examplePiece
     ∷ reads otherText otherPiece
+    -- "E7 28 is −6360"; the least and the greatest field of each kind
+    ∷ reads (filmText (bytes "-6360")) (filmPiece (frames 25 40))
+    ∷ reads (filmText (bytes "-7679")) (filmPiece (frames 30 1))
+    ∷ reads (filmText (bytes "-7169")) (filmPiece (frames 29 255))
+    ∷ reads (filmText (bytes "-5889")) (filmPiece (frames 24 255))
+    ∷ reads (filmText (bytes "1")) (filmPiece (pulses 1))
+    ∷ reads (filmText (bytes "32767")) (filmPiece (pulses 32767))
+    -- of neither kind: the bits themselves, one that only wraps to 96, −0, no ticks, a rate of 26, beyond each end
+    ∷ refuses (filmText (bytes "59176")) 25 1
+    ∷ refuses (filmText (bytes "-65440")) 25 1
+    ∷ refuses (filmText (bytes "-0")) 25 1
+    ∷ refuses (filmText (bytes "0")) 25 1
+    ∷ refuses (filmText (bytes "-6400")) 25 1
+    ∷ refuses (filmText (bytes "-6616")) 25 1
+    ∷ refuses (filmText (bytes "-5888")) 25 1
+    ∷ refuses (filmText (bytes "-7680")) 25 1
+    ∷ refuses (filmText (bytes "32768")) 25 1
+    ∷ refuses (filmText (bytes "-32768")) 25 1
+    ∷ refuses (filmText (bytes "-32769")) 25 1
     -- "Empty text: 28 at 1"; lines that are passed over are counted, CR alone is a blank line
     ∷ refuses [] 28 1
     ∷ refuses (bytes "\n# a comment\n \t\n") 28 4

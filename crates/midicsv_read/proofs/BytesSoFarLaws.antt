@@ -8,7 +8,8 @@ use Rattle.event.specs.Event.{Event}
 use Rattle.event.specs.Frame.{frame, after, noStatus}
 use Rattle.event.specs.Layout.{layEvent}
 use Rattle.event.specs.Manner.{Manner, spellEvent}
-use Rattle.smf.specs.Piece.{Division, Header}
+use Rattle.smf.specs.Division.{Division}
+use Rattle.smf.specs.Piece.{Header}
 use Rattle.smf.specs.Chunk.{trackTag}
 use Rattle.smf.specs.Layout.{layChunk, layChunks, layEvents, layTrack, layTracks, layDivision, layHeader, layPiece}
 use Rattle.smf.specs.Manner.{spellEvents, spellTracks, spelling, fileOf}

@@ -15,7 +15,7 @@ use Rattle.event.specs.declared.EventKind.the-variants.{SystemExclusive, System
 use Rattle.event_write.specs.Head.{headBytes, dataOf}
 use Rattle.event_write.proofs.HeadLaws.{event-bytes}
 use Rattle.event_write.proofs.DataLaws.{head-length}
-use Rattle.midicsv.specs.Table.{EventName, note-off, note-on, poly-aftertouch, control-change, program-change, channel-aftertouch, pitch-bend, system-exclusive, system-exclusive-packet, sequence-number, words, channel-prefix, midi-port, end-track, set-tempo, smpte-offset, time-signature, key-signature, sequencer-specific, unknown-meta, event, spelled, Column, range, key, mode, freeType, Tail, none, oneText, sized, eventShape, shape}
+use Rattle.midicsv.specs.Table.{EventName, note-off, note-on, poly-aftertouch, control-change, program-change, channel-aftertouch, pitch-bend, system-exclusive, system-exclusive-packet, sequence-number, words, channel-prefix, midi-port, end-track, set-tempo, smpte-offset, time-signature, key-signature, sequencer-specific, unknown-meta, event, spelled, Column, range, key, mode, freeType, division, Tail, none, oneText, sized, eventShape, shape}
 use Rattle.midicsv.specs.Record.{Values}
 use Rattle.midicsv.specs.ReadField.{plain}
 use Rattle.midicsv.specs.KindOf.{kindNamed}
@@ -36,6 +36,7 @@ Narrow (range lo hi) = hi ≤ 255
 Narrow key = Unit {0}
 Narrow mode = Unit {0}
 Narrow freeType = Unit {0}
+Narrow division = ⊥
 
 narrow : (c : Column) (n : ℕ) → Narrow c → InColumn c n → n % 256 ≡ n
 unfolding Narrow InColumn
@@ -44,6 +45,7 @@ narrow key n h (inl i) = omega arith
 narrow key n h (inr i) = omega arith
 narrow mode n h i = omega arith
 narrow freeType n h i = omega (arith, i .0)
+narrow division n h i = absurd h
 
 -- the i-th number, of such a column
 byte-is : (cs : List Column) (ns : List ℕ) (i : ℕ) → InColumns cs ns → i < length cs → Narrow (getD cs i (range 0 0)) → getD ns i 0 % 256 ≡ getD ns i 0

@@ -13,12 +13,13 @@ use Rattle.event.proofs.BytesLaws.{length-bigEndian}
 use Rattle.event_write.specs.Written.{Written}
 use Rattle.event_write.proofs.WriteLaws.{then}
 use Rattle.smf.specs.Chunk.{trackTag}
+use Rattle.smf.specs.Division.{divisionOf}
 use Rattle.smf.specs.Layout.{layEvents, layTracks, layHeader}
 use Rattle.smf.specs.Step.{lastTime}
 use Rattle.midicsv.specs.Result.{test}
 use Rattle.midicsv.specs.Order.{State, first, between, inside, finished, takeHeader, takeStart, takeEnd, stepOn}
 use Rattle.midicsv.proofs.ResultLaws.{test-eq}
-use Rattle.midicsv_read.specs.Progress.{lastForce, eventsBytes, tracksBytes, betweenBytes, frontBytes, bytesOf, Between, At, Follows, Sized, divisionOf, headerStep, startStep, endStep}
+use Rattle.midicsv_read.specs.Progress.{lastForce, eventsBytes, tracksBytes, betweenBytes, frontBytes, bytesOf, Between, At, Follows, Sized, headerStep, startStep, endStep}
 use Rattle.midicsv_record.specs.declared.Row.{Row}
 use Rattle.midicsv_read.specs.declared.Progress.{Progress}
 use Rattle.midicsv_read.specs.declared.Step.the-variants.{Moved, Bad}

@@ -8,6 +8,7 @@ use lib.ListN.{length}
 use Rattle.event.specs.Bytes.{Bytes}
 use Rattle.event.specs.Manner.{Manner}
 use Rattle.event.proofs.ChoiceLaws.{pick-true, pick-false}
+use Rattle.smf.specs.Division.{divisionOk}
 use Rattle.midicsv.specs.Table.{shape}
 use Rattle.midicsv.specs.Record.{Record}
 use Rattle.midicsv.specs.Result.{Result, good, bad, next}
@@ -58,13 +59,13 @@ module _ (m : Manner) (st : Progress) (out : List ℕ) (l : List ℕ) (row : Row
   pub row-end : row .name ≡ 2 → Follows m st out (endStep row) r new → Follows m st out (rowStep l row) r new
   row-end e f = follows-same m st out (endStep row) (rowStep l row) r new (λ s. end-named s e) f
 
--- the number of tracks is in its range
-pub header-count : (l : List ℕ) (row : Row) → Bytes l → RowOf l row → row .name ≡ 0 → row .b ≤ 65535
+-- the number of tracks is in its range, and the division's bits are those of a division
+pub header-numbers : (l : List ℕ) (row : Row) → Bytes l → RowOf l row → row .name ≡ 0 → (row .b ≤ 65535) × (divisionOk (row .c) ≡ true)
 unfolding shape InColumns InColumn
-header-count l row b k e =
+header-numbers l row b k e =
     let c : InColumns (shape (nameAt (row .name)) .columns) (columnsIn row) = line-given l (recordIn l row) b (k .reads) .columns in
     let d = rw e at c in
-    omega (arith, d .1 .0 .1)
+    (omega (arith, d .1 .0 .1), d .1 .1 .0)
 
 -- ---- a line and its row
 

@@ -9,7 +9,7 @@ use Rattle.event.specs.Frame.{frame, after, noStatus}
 use Rattle.event.specs.Manner.{Manner}
 use Rattle.event.specs.Outcome.{Outcome, ok, refused}
 use Rattle.event_write.specs.Written.{Written, overwrite}
-use Rattle.smf.specs.Piece.{Division, Piece, Header}
+use Rattle.smf.specs.Piece.{Piece, Header}
 use Rattle.smf.specs.Chunk.{trackTag}
 use Rattle.smf.specs.Layout.{layEvents, layTracks, layHeader}
 use Rattle.smf.specs.Manner.{spellEvents, spellTracks, fileOf}
@@ -124,10 +124,6 @@ Near n (Moved st) = st .at ≤ n
 Near n (Bad k) = Unit {0}
 
 -- ---- the records
-
--- the division of so many pulses
-abbrev pub divisionOf : ℕ → Division
-divisionOf n = record { pulses = n }
 
 -- what the definition does with a Header of the row's numbers
 abbrev pub headerStep : Row → State → Result State

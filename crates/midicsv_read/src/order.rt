@@ -1,7 +1,7 @@
 // Records in their order: each is taken where it may stand, and its bytes are written. The length of
 // a track is known at its End_track, and is then written over the zero that stood for it.
 ghost use mathlib.Core.Path.{_≡_};
-ghost use mathlib.Core.Bool.{_&&_};
+ghost use mathlib.Core.Bool.{true, _&&_};
 ghost use mathlib.Core.List.{[]};
 ghost use Prim.Native.Nat.{_+_, _≤_, _<_, _^_};
 ghost use lib.ListN.{length};
@@ -9,7 +9,8 @@ ghost use lib.Dec.{eqb};
 ghost use Rattle.event_write.specs.Written.{Written};
 ghost use Rattle.event_write.specs.Head.{mannerOf};
 ghost use Rattle.smf.specs.Layout.{layHeader};
-ghost use Rattle.midicsv_read.specs.Progress.{divisionOf, headerStep, startStep, endStep, rowStep, lineStep, RowOf, InTrack, Follows, FollowsEither, FollowsStill, Near, Sized};
+ghost use Rattle.smf.specs.Division.{divisionOk, divisionOf};
+ghost use Rattle.midicsv_read.specs.Progress.{headerStep, startStep, endStep, rowStep, lineStep, RowOf, InTrack, Follows, FollowsEither, FollowsStill, Near, Sized};
 use super::Progress;
 use super::Step;
 use super::write_row::put_row;
@@ -36,21 +37,21 @@ fn is_marked(row: Row, track: u32) -> bool
     row.time == 0
 }
 
-// MThd, 6, and the numbers of a Header.
-fn put_header(out: &mut [u8], at: usize, format: u32, count: u32, pulses: u32) -> usize
-    requires { ⌜ at < 2 ^ 44 ⌝ }
-    ensures { λ r. ⌜ Written (now (out .entry)) at (layHeader format count (divisionOf pulses) [] []) (now (out .exit)) r ⌝ }
+// MThd, 6, and the numbers of a Header, its division by its 16 bits.
+fn put_header(out: &mut [u8], at: usize, format: u32, count: u32, bits: u32) -> usize
+    requires { ⌜ at < 2 ^ 44 ⌝ ∗ ⌜ divisionOk bits ≡ true ⌝ }
+    ensures { λ r. ⌜ Written (now (out .entry)) at (layHeader format count (divisionOf bits) [] []) (now (out .exit)) r ⌝ }
 {
     let a = put_four(out, at, 0x4D546864);
     let b = put_four(out, a, 6);
     let c = put_two(out, b, format);
     let d = put_two(out, c, count);
-    put_two(out, d, pulses)
+    put_two(out, d, bits)
 }
 
 // A Header stands first.
 fn take_header(out: &mut [u8], st: Progress, row: Row) -> Step
-    requires { ⌜ Sized st ⌝ ∗ ⌜ row .b ≤ 65535 ⌝ }
+    requires { ⌜ Sized st ⌝ ∗ ⌜ row .b ≤ 65535 ⌝ ∗ ⌜ divisionOk (row .c) ≡ true ⌝ }
     ensures { λ r. ⌜ FollowsEither st (now (out .entry)) (headerStep row) r (now (out .exit)) ⌝ ∗ ⌜ Near (st .at + 15) r ⌝ }
 {
     if st.phase != 0 {

@@ -1,14 +1,15 @@
 -- Columns that are read from a number.
 use mathlib.Core.Path.{_≡_, refl, sym, _∙_}
 use Prim.Native.Nat.{ℕ, _<_, _≤_}
-use mathlib.Core.Bool.{true, false, _&&_}
+use mathlib.Core.Bool.{Bool, true, false, _&&_}
 use lib.Dec.{leb}
 use borrow.Author.Tests.{le-leb, lt-leb}
 use Rattle.event.specs.Meta.{kindOf}
+use Rattle.smf.specs.Division.{divisionOk}
 use Rattle.midicsv.specs.Field.{Field, num, minus, name, quoted}
-use Rattle.midicsv.specs.Table.{range, freeType}
-use Rattle.midicsv.specs.Result.{good, bad, next, test}
-use Rattle.midicsv.specs.ReadRecord.{sizeOf, isFree, readColumn}
+use Rattle.midicsv.specs.Table.{Column, range, freeType, division}
+use Rattle.midicsv.specs.Result.{Result, good, bad, next, test}
+use Rattle.midicsv.specs.ReadRecord.{sizeOf, isFree, signedBits, readColumn}
 
 -- ---- a range
 
@@ -45,14 +46,38 @@ free-number (minus n) = refl
 free-number (name s) = refl
 free-number (quoted d) = refl
 
-pub free-none : (f : Field) → bad 25 ≡ sizeOf f → bad 25 ≡ readColumn freeType f
-unfolding next
-free-none f e = sym (free-number f ∙ rw (← e) refl)
+-- ---- the bits of a division
 
-pub free-in : (f : Field) (v : ℕ) → good v ≡ sizeOf f → (leb v 127 && isFree (kindOf v)) ≡ true → good v ≡ readColumn freeType f
-unfolding next test
-free-in f v e h = sym (free-number f ∙ rw (← e, h) refl)
+division-number : (f : Field) → readColumn division f ≡ next (signedBits f) (λ n. test (divisionOk n) 25 (good n))
+unfolding readColumn
+division-number f = refl
 
-pub free-out : (f : Field) (v : ℕ) → good v ≡ sizeOf f → (leb v 127 && isFree (kindOf v)) ≡ false → bad 25 ≡ readColumn freeType f
-unfolding next test
-free-out f v e h = sym (free-number f ∙ rw (← e, h) refl)
+-- ---- a number that is then tested: x reads m, and tests what it gives by t
+
+module _ (x m : Result ℕ) (t : ℕ → Bool) (e : x ≡ next m (λ n. test (t n) 25 (good n))) where
+  tested-none : bad 25 ≡ m → bad 25 ≡ x
+  unfolding next
+  tested-none h = sym (e ∙ rw (← h) refl)
+
+  tested-in : (v : ℕ) → good v ≡ m → t v ≡ true → good v ≡ x
+  unfolding next test
+  tested-in v h q = sym (e ∙ rw (← h, q) refl)
+
+  tested-out : (v : ℕ) → good v ≡ m → t v ≡ false → bad 25 ≡ x
+  unfolding next test
+  tested-out v h q = sym (e ∙ rw (← h, q) refl)
+
+-- what the code may conclude of a column that is read so
+pub record Tested (c : Column) (f : Field) (m : Result ℕ) (t : ℕ → Bool) : Type 0 where
+  pub missed : bad 25 ≡ m → bad 25 ≡ readColumn c f
+  pub taken : (v : ℕ) → good v ≡ m → t v ≡ true → good v ≡ readColumn c f
+  pub left : (v : ℕ) → good v ≡ m → t v ≡ false → bad 25 ≡ readColumn c f
+
+tested : (c : Column) (f : Field) (m : Result ℕ) (t : ℕ → Bool) → readColumn c f ≡ next m (λ n. test (t n) 25 (good n)) → Tested c f m t
+tested c f m t e = record { missed = tested-none _ m t e; taken = tested-in _ m t e; left = tested-out _ m t e }
+
+pub free-tested : (f : Field) → Tested freeType f (sizeOf f) (λ n. leb n 127 && isFree (kindOf n))
+free-tested f = tested freeType f (sizeOf f) (λ n. leb n 127 && isFree (kindOf n)) (free-number f)
+
+pub division-tested : (f : Field) → Tested division f (signedBits f) divisionOk
+division-tested f = tested division f (signedBits f) divisionOk (division-number f)

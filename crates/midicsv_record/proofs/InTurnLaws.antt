@@ -9,9 +9,9 @@ use lib.Seq.{drop-drop}
 use Rattle.event.specs.Outcome.{Outcome, ok, refused, andThen, valueOr}
 use Rattle.event.proofs.OutcomeLaws.{andThen-same}
 use Rattle.midicsv.specs.Field.{Field, name}
-use Rattle.midicsv.specs.Table.{Column, range, key, mode, freeType}
-use Rattle.midicsv.specs.Result.{Result, bad}
-use Rattle.midicsv.specs.ReadRecord.{readColumn}
+use Rattle.midicsv.specs.Table.{Column, range, key, mode, freeType, division}
+use Rattle.midicsv.specs.Result.{Result, bad, next}
+use Rattle.midicsv.specs.ReadRecord.{signedBits, readColumn}
 use Rattle.midicsv_scan.specs.FieldStep.{fieldAs}
 use Rattle.midicsv_scan.specs.declared.FieldStep.{FieldStep}
 use Rattle.midicsv_scan.specs.declared.FieldStep.the-variants.{Number, Minus, Name, Quoted, BadField}
@@ -37,11 +37,12 @@ field-fits g l r BadField b e = rw (← e, b) refl
 
 -- a name fits no column
 name-misfits : (c : Column) (s : List ℕ) → readColumn c (name s) ≡ bad 25
-unfolding readColumn
+unfolding readColumn signedBits next
 name-misfits (range lo hi) s = refl
 name-misfits key s = refl
 name-misfits mode s = refl
 name-misfits freeType s = refl
+name-misfits division s = refl
 
 pub column-fits : (c : Column) (l r : List ℕ) (f : FieldStep) → fieldAs l f ≡ fieldAfter r → fitting (readColumn c (fieldIn l f)) (drop (placeAfter f) l) ≡ columnAfter c r
 unfolding columnAfter

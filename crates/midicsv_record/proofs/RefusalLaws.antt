@@ -8,10 +8,10 @@ use lib.ListN.{length}
 use borrow.Author.Tests.{eqb-true, ltb-true}
 use Rattle.event.specs.Choice.{pick}
 use Rattle.midicsv.specs.Field.{Field, num, minus, name, quoted}
-use Rattle.midicsv.specs.Table.{RecordName, Column, range, key, mode, freeType, Tail, none, oneText, sized, shape}
+use Rattle.midicsv.specs.Table.{RecordName, Column, range, key, mode, freeType, division, Tail, none, oneText, sized, shape}
 use Rattle.midicsv.specs.Result.{Result, good, bad, next, test}
 use Rattle.midicsv.specs.Names.{nameFrom}
-use Rattle.midicsv.specs.ReadRecord.{counted, readColumn, readBytes, readText, readTail, readColumns, withValues, readLine}
+use Rattle.midicsv.specs.ReadRecord.{counted, signedBits, readColumn, readBytes, readText, readTail, readColumns, withValues, readLine}
 use Rattle.midicsv.proofs.ResultLaws.{test-good}
 use Rattle.midicsv_scan.specs.FieldStep.{Counted, FieldIs}
 use Rattle.midicsv_scan.specs.declared.FieldStep.{FieldStep}
@@ -51,6 +51,13 @@ refused-only (bad n) h r = ap bad h
 
 -- ---- fields beside their columns
 
+signed-only : (f : Field) → Only (signedBits f)
+unfolding signedBits
+signed-only (num n) = test-only _ _ tt
+signed-only (minus n) = test-only _ _ tt
+signed-only (name s) = refl
+signed-only (quoted d) = refl
+
 column-only : (c : Column) (f : Field) → Only (readColumn c f)
 unfolding readColumn
 column-only (range lo hi) (num n) = test-only _ _ tt
@@ -69,6 +76,7 @@ column-only freeType (num n) = test-only _ _ tt
 column-only freeType (minus n) = refl
 column-only freeType (name s) = refl
 column-only freeType (quoted d) = refl
+column-only division f = next-only _ _ (signed-only f) (λ n. test-only _ _ tt)
 
 data-only : (fs : List Field) → Only (readBytes fs)
 unfolding readBytes

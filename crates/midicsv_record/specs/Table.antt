@@ -2,12 +2,12 @@
 use Prim.Native.Nat.{ℕ}
 use mathlib.Core.List.{List, [], _∷_}
 use Rattle.midicsv.specs.Field.{Field}
-use Rattle.midicsv.specs.Table.{Column, range, key, mode, freeType, Tail, none, oneText, sized, shape}
+use Rattle.midicsv.specs.Table.{Column, range, key, mode, freeType, division, Tail, none, oneText, sized, shape}
 use Rattle.midicsv.specs.Result.{Result, good}
 use Rattle.midicsv.specs.ReadRecord.{readColumn}
 use Rattle.midicsv_record.specs.Row.{nameAt}
 use Rattle.midicsv_record.specs.declared.ColumnKind.{ColumnKind}
-use Rattle.midicsv_record.specs.declared.ColumnKind.the-variants.{Range, Key, Mode, FreeType, NoColumn}
+use Rattle.midicsv_record.specs.declared.ColumnKind.the-variants.{Range, Key, Mode, FreeType, Division, NoColumn}
 use Rattle.midicsv_record.specs.declared.TailKind.{TailKind}
 use Rattle.midicsv_record.specs.declared.TailKind.the-variants.{NoTail, OneText, Sized}
 
@@ -25,6 +25,7 @@ columnAs (Range lo hi) = range lo hi ∷ []
 columnAs Key = key ∷ []
 columnAs Mode = mode ∷ []
 columnAs FreeType = freeType ∷ []
+columnAs Division = division ∷ []
 columnAs NoColumn = []
 
 -- nothing, a Text, or "Length, Data.."

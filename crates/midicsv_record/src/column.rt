@@ -6,8 +6,8 @@ ghost use Rattle.event.specs.Meta.{kindOf};
 ghost use lib.ListN.{drop};
 ghost use Rattle.midicsv.specs.Field.{quoted};
 ghost use Rattle.midicsv.specs.ReadField.{plain};
-ghost use Rattle.midicsv.specs.Table.{range, key, mode, freeType};
-ghost use Rattle.midicsv.specs.ReadRecord.{sizeOf, isFree, readColumn};
+ghost use Rattle.midicsv.specs.Table.{range, key, mode, freeType, division};
+ghost use Rattle.midicsv.specs.ReadRecord.{sizeOf, isFree, signedBits, readColumn};
 ghost use Rattle.midicsv_scan.specs.Unquoted.{unquoted};
 ghost use Rattle.midicsv_record.specs.Table.{columnAs, readFirst};
 ghost use Rattle.midicsv_record.specs.Column.{fieldIn, valueAs, Reads};
@@ -15,6 +15,7 @@ use super::ColumnKind;
 use super::ColumnStep;
 use super::text::is_word;
 use midicsv_scan::FieldStep;
+use smf::header::division_ok;
 
 // A number without a minus.
 pub fn number_of(f: FieldStep) -> ColumnStep
@@ -128,6 +129,42 @@ fn free_type(f: FieldStep) -> ColumnStep
     ColumnStep::OutOfRange
 }
 
+// The 16 bits of a number -32768..32767.
+fn signed_bits(f: FieldStep) -> ColumnStep
+    ensures { λ r. ⌜ Reads signedBits f r ⌝ }
+{
+    match f {
+        FieldStep::Number { value, .. } => {
+            if 32767 < value {
+                return ColumnStep::OutOfRange;
+            }
+            ColumnStep::Value(value)
+        }
+        FieldStep::Minus { value, .. } => {
+            if 32768 < value {
+                return ColumnStep::OutOfRange;
+            }
+            ColumnStep::Value(65536 - value)
+        }
+        FieldStep::Name { .. } => ColumnStep::OutOfRange,
+        FieldStep::Quoted { .. } => ColumnStep::OutOfRange,
+        FieldStep::BadField => ColumnStep::OutOfRange,
+    }
+}
+
+// A division, as its 16 bits in the file.
+fn division_of(f: FieldStep) -> ColumnStep
+    ensures { λ r. ⌜ Reads (readColumn division) f r ⌝ }
+{
+    let ColumnStep::Value(bits) = signed_bits(f) else {
+        return ColumnStep::OutOfRange;
+    };
+    if division_ok(bits) {
+        return ColumnStep::Value(bits);
+    }
+    ColumnStep::OutOfRange
+}
+
 // The number of a field, by its column.
 pub fn value_in(line: &[u8], f: FieldStep, column: ColumnKind) -> ColumnStep
     ensures { λ r. ⌜ valueAs r ≡ readFirst (columnAs column) (fieldIn (now (line .entry)) f) ⌝ }
@@ -137,6 +174,7 @@ pub fn value_in(line: &[u8], f: FieldStep, column: ColumnKind) -> ColumnStep
         ColumnKind::Key => key_of(f),
         ColumnKind::Mode => mode_of(line, f),
         ColumnKind::FreeType => free_type(f),
+        ColumnKind::Division => division_of(f),
         ColumnKind::NoColumn => ColumnStep::Value(0),
     }
 }

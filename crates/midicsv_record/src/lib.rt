@@ -36,6 +36,7 @@ pub enum ColumnKind {
     Key,
     Mode,
     FreeType,
+    Division,
     NoColumn,
 }
 

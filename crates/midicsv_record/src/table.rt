@@ -63,7 +63,7 @@ fn header_column(i: usize) -> ColumnKind
     match i {
         0 => ColumnKind::Range { lo: 0, hi: 2 },
         1 => ColumnKind::Range { lo: 1, hi: 65535 },
-        _ => ColumnKind::Range { lo: 1, hi: 32767 },
+        _ => ColumnKind::Division,
     }
 }
 

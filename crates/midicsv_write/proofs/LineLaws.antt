@@ -23,7 +23,7 @@ use Rattle.event_write.specs.Written.{Written}
 use Rattle.event_write.proofs.DataLaws.{data-length}
 use Rattle.midicsv.specs.Field.{bytes, digitsOf, decimal, Field, num}
 use Rattle.midicsv.specs.Show.{Form, asText, asSheet, gap, show, joined, further, lineOf}
-use Rattle.midicsv.specs.Table.{EventName, note-off, note-on, poly-aftertouch, control-change, program-change, channel-aftertouch, pitch-bend, system-exclusive, system-exclusive-packet, sequence-number, words, channel-prefix, midi-port, end-track, set-tempo, smpte-offset, time-signature, key-signature, sequencer-specific, unknown-meta, start-track, end-of-file, eventSpelled, spelled, Column, range, key, mode, freeType, Tail, none, oneText, sized, eventShape, shape}
+use Rattle.midicsv.specs.Table.{EventName, note-off, note-on, poly-aftertouch, control-change, program-change, channel-aftertouch, pitch-bend, system-exclusive, system-exclusive-packet, sequence-number, words, channel-prefix, midi-port, end-track, set-tempo, smpte-offset, time-signature, key-signature, sequencer-specific, unknown-meta, start-track, end-of-file, eventSpelled, spelled, Column, range, key, mode, freeType, division, Tail, none, oneText, sized, eventShape, shape}
 use Rattle.midicsv.specs.Record.{columnField, tailFields, fieldsOf, recordLine, nameOf, valuesOf}
 use Rattle.midicsv.specs.Text.{mark, eventRecord, recordsText}
 use Rattle.midicsv.proofs.KindAcceptedLaws.{key-same}
@@ -47,9 +47,9 @@ pub number-length : (w : Form) (n : ℕ) → length (joined w (num n)) ≤ 12
 unfolding show
 number-length w n = simp length-append (omega (arith, decimal-length n, gap-length w))
 
-pub three-length : (w : Form) (a b c : ℕ) → length (further w (num a ∷ num b ∷ num c ∷ [])) ≤ 36
+pub two-length : (w : Form) (a b : ℕ) → length (further w (num a ∷ num b ∷ [])) ≤ 24
 unfolding further show
-three-length w a b c = simp length-append (omega (arith, decimal-length a, decimal-length b, decimal-length c, gap-length w))
+two-length w a b = simp length-append (omega (arith, decimal-length a, decimal-length b, gap-length w))
 
 column-length : (w : Form) (c : Column) (n : ℕ) → length (show w (columnField c n)) ≤ 11
 unfolding columnField show pick
@@ -57,9 +57,10 @@ column-length w (range lo hi) n = omega (arith, decimal-length n)
 column-length w key b = by-test (ltb b 8) (λ t. rw t (omega (arith, decimal-length b))) (λ t. rw t (omega (arith, decimal-length (256 - b))))
 column-length w mode m = rw (mode-shown w m) (by-test (eqb m 0) (λ t. rw t (omega arith)) (λ t. rw t (omega arith)))
 column-length w freeType n = omega (arith, decimal-length n)
+column-length w division n = by-test (leb n 32767) (λ t. rw t (omega (arith, decimal-length n))) (λ t. rw t (omega (arith, decimal-length (65536 - n))))
 
-pub key-length : (w : Form) (b : ℕ) → length (joined w (columnField key b)) ≤ 13
-key-length w b = simp length-append (omega (arith, column-length w key b, gap-length w))
+pub field-length : (w : Form) (c : Column) (n : ℕ) → length (joined w (columnField c n)) ≤ 13
+field-length w c n = simp length-append (omega (arith, column-length w c n, gap-length w))
 
 -- ---- a key's byte
 
@@ -97,18 +98,30 @@ end-line asText = refl
 end-line asSheet = refl
 
 -- the columns of the Header
-pub header-line : (w : Form) (a b c : ℕ) → headerStart w ++ (further w (num a ∷ num b ∷ num c ∷ []) ++ (10 ∷ [])) ≡ line w (headerFor a b c)
+header-fields : (w : Form) (a b c : ℕ) → headerStart w ++ (further w (num a ∷ num b ∷ columnField division c ∷ []) ++ (10 ∷ [])) ≡ line w (headerFor a b c)
 unfolding headerStart gap recordsText recordLine lineOf further show spelled shape fieldsOf tailFields columnField decimal digitsOf pick
-header-line asText a b c = refl
-header-line asSheet a b c = refl
+header-fields asText a b c = refl
+header-fields asSheet a b c = refl
+
+-- as the code writes them: two numbers, and the division
+pub header-line : (w : Form) (a b c : ℕ) → headerStart w ++ (further w (num a ∷ num b ∷ []) ++ (further w (columnField division c ∷ []) ++ (10 ∷ []))) ≡ line w (headerFor a b c)
+header-line w a b c =
+    let xs : List Field = num a ∷ num b ∷ [] in
+    let ys : List Field = columnField division c ∷ [] in
+    ap (λ z. headerStart w ++ z) (sym (append-assoc (further w xs) (further w ys) (10 ∷ [])) ∙ ap (λ z. z ++ (10 ∷ [])) (sym (further-append w xs ys)))
+    ∙ header-fields w a b c
 
 pub header-few : (w : Form) → length (headerStart w) ≤ 12
 unfolding headerStart
 header-few asText = omega arith
 header-few asSheet = omega arith
 
-pub header-line-length : (w : Form) (a b c : ℕ) → length (line w (headerFor a b c)) ≤ 49
-header-line-length w a b c = rw (← header-line w a b c) (simp length-append (omega (arith, three-length w a b c, header-few w)))
+division-length : (w : Form) (n : ℕ) → length (further w (columnField division n ∷ [])) ≤ 13
+unfolding further
+division-length w n = simp length-append (omega (arith, column-length w division n, gap-length w))
+
+pub header-line-length : (w : Form) (a b c : ℕ) → length (line w (headerFor a b c)) ≤ 50
+header-line-length w a b c = rw (← header-line w a b c) (simp length-append (omega (arith, two-length w a b, division-length w c, header-few w)))
 
 -- ---- the row of an event: its data are in the Text, or the Data, alone
 

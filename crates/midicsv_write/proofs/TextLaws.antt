@@ -14,7 +14,8 @@ use Rattle.event_write.proofs.WriteLaws.{Remains}
 use Rattle.smf.specs.Layout.{layTracks}
 use Rattle.smf.specs.Reader.{readAll, readHeader}
 use Rattle.smf.specs.PieceRead.{pieceRead}
-use Rattle.smf.specs.Step.{headerStep}
+use Rattle.smf.specs.Division.{bits}
+use Rattle.smf.specs.Step.{divisionFrom, headerStep}
 use Rattle.smf.specs.declared.Division.{Division}
 use Rattle.smf.specs.declared.HeaderStep.the-variants.{Fields}
 use Rattle.smf.proofs.FileLaws.{file-sound}
@@ -98,12 +99,12 @@ track-lines w n es = lines-cons w (mark start-track n) (eventRecords n es)
 -- ---- the text of the file's piece, as the code writes it
 
 pub text-lines : (w : Form) (s : List ℕ) (a b : ℕ) (d : Division) (n : ℕ) → Bytes s → headerStep (length s) (readHeader s) ≡ Fields a b d n → Accepted s b n
-    → writtenAs w (pieceRead s) ≡ line w (headerFor a b (d .0)) ++ (TracksLeft w 1 s b n ++ line w (mark end-of-file 0))
+    → writtenAs w (pieceRead s) ≡ line w (headerFor a b (bits (divisionFrom d))) ++ (TracksLeft w 1 s b n ++ line w (mark end-of-file 0))
 unfolding writtenAs pieceRecords headerRecord valueOr
 text-lines w s a b d n bs e there =
     let p = there .piece in
     let head = headed s a b d n bs e there in
-    let same : headerRecord p ≡ headerFor a b (d .0) = ap₂ (λ x y. headerFor x y (p .division .pulses)) (head .format) (there .count) ∙ ap (λ x. headerFor a b (x .pulses)) (head .division) in
+    let same : headerRecord p ≡ headerFor a b (bits (divisionFrom d)) = ap₂ (λ x y. headerFor x y (bits (p .division))) (head .format) (there .count) ∙ ap (λ x. headerFor a b (bits x)) (head .division) in
     let tracks : recordsText w (trackRecords 1 (p .tracks)) ≡ TracksLeft w 1 s b n = ap (λ z. recordsText w (trackRecords 1 (valueOr [] z))) (sym (there .tracks)) in
     ap (writtenAs w) (head .same)
     ∙ lines-cons w (headerRecord p) _

@@ -32,9 +32,9 @@ columnCount k = length (columnFields (kindFrom [] k))
 abbrev pub line : Form → Record → List ℕ
 line w r = recordsText w (r ∷ [])
 
--- "`0, 0, Header, format, tracks, division`"
+-- "`0, 0, Header, format, tracks, division`", the division as its 16 bits
 abbrev pub headerFor : ℕ → ℕ → ℕ → Record
-headerFor format count pulses = record { track = 0; time = 0; name = header; values = plain (format ∷ count ∷ pulses ∷ []) }
+headerFor format count bits = record { track = 0; time = 0; name = header; values = plain (format ∷ count ∷ bits ∷ []) }
 
 -- the Header's line up to its numbers
 unfoldable pub headerStart : Form → List ℕ

@@ -4,10 +4,10 @@ ghost use Prim.Native.Nat.{_≤_, _<_, _^_};
 ghost use lib.ListN.{length};
 ghost use Rattle.event.specs.Step.{kindFrom};
 ghost use Rattle.event_write.specs.Written.{Written};
-ghost use Rattle.midicsv.specs.Field.{decimal, num};
+ghost use Rattle.midicsv.specs.Field.{decimal, num, minus};
 ghost use Rattle.midicsv.specs.Show.{gap, joined, further};
 ghost use Rattle.midicsv.specs.Code.Form.{formOf};
-ghost use Rattle.midicsv.specs.Table.{key, mode, start-track, end-of-file};
+ghost use Rattle.midicsv.specs.Table.{key, mode, division, start-track, end-of-file};
 ghost use Rattle.midicsv.specs.Record.{columnField};
 ghost use Rattle.midicsv.specs.Text.{mark, eventRecord};
 ghost use Rattle.midicsv_write.specs.Line.{eventFrom, columnFields, columnCount, bodyFields, line, headerFor, headerStart};
@@ -21,6 +21,16 @@ use midicsv::field::put_number_field;
 use midicsv::field::put_sized;
 use midicsv::field::put_text_field;
 
+// A number below 0, by its digits.
+fn put_minus_field(out: &mut [u8], at: usize, n: u32, sheet: bool) -> usize
+    requires { ⌜ at < 2 ^ 45 ⌝ }
+    ensures { λ r. ⌜ Written (now (out .entry)) at (joined (formOf sheet) (minus n)) (now (out .exit)) r ⌝ }
+{
+    let a = put_comma(out, at, sheet);
+    let b = put_byte(out, a, 45);
+    put_decimal(out, b, n)
+}
+
 // A key, from its byte in the file.
 fn put_key_field(out: &mut [u8], at: usize, byte: u8, sheet: bool) -> usize
     requires { ⌜ at < 2 ^ 45 ⌝ }
@@ -29,9 +39,18 @@ fn put_key_field(out: &mut [u8], at: usize, byte: u8, sheet: bool) -> usize
     if byte < 8 {
         return put_number_field(out, at, byte as u32, sheet);
     }
-    let a = put_comma(out, at, sheet);
-    let b = put_byte(out, a, 45);
-    put_decimal(out, b, 256 - byte as u32)
+    put_minus_field(out, at, 256 - byte as u32, sheet)
+}
+
+// A division, from its 16 bits.
+fn put_division_field(out: &mut [u8], at: usize, bits: u32, sheet: bool) -> usize
+    requires { ⌜ at < 2 ^ 45 ⌝ ∗ ⌜ bits ≤ 65535 ⌝ }
+    ensures { λ r. ⌜ Written (now (out .entry)) at (joined (formOf sheet) (columnField division bits)) (now (out .exit)) r ⌝ }
+{
+    if bits <= 32767 {
+        return put_number_field(out, at, bits, sheet);
+    }
+    put_minus_field(out, at, 65536 - bits, sheet)
 }
 
 // "major" or "minor".
@@ -294,10 +313,12 @@ fn put_header_start(out: &mut [u8], sheet: bool) -> usize
 }
 
 // The Header's line, which begins a text.
-pub fn put_header_line(out: &mut [u8], format: u32, count: u32, pulses: u32, sheet: bool) -> usize
-    ensures { λ r. ⌜ Written (now (out .entry)) 0 (line (formOf sheet) (headerFor format count pulses)) (now (out .exit)) r ⌝ }
+pub fn put_header_line(out: &mut [u8], format: u32, count: u32, bits: u32, sheet: bool) -> usize
+    requires { ⌜ bits ≤ 65535 ⌝ }
+    ensures { λ r. ⌜ Written (now (out .entry)) 0 (line (formOf sheet) (headerFor format count bits)) (now (out .exit)) r ⌝ }
 {
     let p = put_header_start(out, sheet);
-    let q = put_three_fields(out, p, format, count, pulses, sheet);
-    put_byte(out, q, 10)
+    let q = put_two_fields(out, p, format, count, sheet);
+    let r = put_division_field(out, q, bits, sheet);
+    put_byte(out, r, 10)
 }

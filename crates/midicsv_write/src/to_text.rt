@@ -112,8 +112,8 @@ fn put_text(out: &mut [u8], file: &[u8], sheet: bool) -> usize
             division,
             next,
         } => {
-            let pulses = division.0;
-            let p = put_header_line(out, format, count, pulses, sheet);
+            let bits = smf::header::division_bits(division);
+            let p = put_header_line(out, format, count, bits, sheet);
             let q = put_tracks(out, p, file, count, next, sheet);
             put_end_line(out, q, sheet)
         }

@@ -9,12 +9,12 @@ use borrow.Author.Tests.{eqb-true}
 use Rattle.event.specs.Outcome.{Outcome, ok, refused}
 use Rattle.event.proofs.ChoiceLaws.{pick-false}
 use Rattle.midicsv.specs.Field.{Field, num, minus, name, quoted}
-use Rattle.midicsv.specs.Table.{RecordName, header, start-track, end-of-file, event, note-off, note-on, poly-aftertouch, control-change, program-change, channel-aftertouch, pitch-bend, system-exclusive, system-exclusive-packet, sequence-number, words, channel-prefix, midi-port, end-track, set-tempo, smpte-offset, time-signature, key-signature, sequencer-specific, unknown-meta, Column, range, key, mode, freeType, Tail, none, oneText, sized, eventShape, shape}
+use Rattle.midicsv.specs.Table.{RecordName, header, start-track, end-of-file, event, note-off, note-on, poly-aftertouch, control-change, program-change, channel-aftertouch, pitch-bend, system-exclusive, system-exclusive-packet, sequence-number, words, channel-prefix, midi-port, end-track, set-tempo, smpte-offset, time-signature, key-signature, sequencer-specific, unknown-meta, Column, range, key, mode, freeType, division, Tail, none, oneText, sized, eventShape, shape}
 use Rattle.midicsv.specs.Record.{Record, Values}
-use Rattle.midicsv.specs.Result.{Result, good}
+use Rattle.midicsv.specs.Result.{Result, good, next}
 use Rattle.midicsv.specs.ReadField.{readField, allFields}
 use Rattle.midicsv.specs.Names.{nameFrom}
-use Rattle.midicsv.specs.ReadRecord.{sizeOf, counted, readColumn, readBytes, readText, readTail, readColumns, recordOf, ofFields, readLine}
+use Rattle.midicsv.specs.ReadRecord.{sizeOf, counted, signedBits, readColumn, readBytes, readText, readTail, readColumns, recordOf, ofFields, readLine}
 use Rattle.midicsv.proofs.ResultLaws.{not-good, next-good, test-good}
 use Rattle.midicsv.proofs.RowAcceptedLaws.{counted-good}
 use Rattle.sheet_table.specs.Cut.{has, cut}
@@ -34,6 +34,7 @@ numberColumns (range lo hi ∷ cs) t = numberColumns cs t
 numberColumns (key ∷ cs) t = numberColumns cs t
 numberColumns (mode ∷ cs) t = false
 numberColumns (freeType ∷ cs) t = numberColumns cs t
+numberColumns (division ∷ cs) t = numberColumns cs t
 
 data Sort (n : RecordName) : Type 0 where
   numeric : numberColumns (shape n .columns) (shape n .tail) ≡ true → Sort n
@@ -114,6 +115,13 @@ free-plain (minus k) n e = not-good e
 free-plain (name s) n e = not-good e
 free-plain (quoted d) n e = not-good e
 
+division-plain : (f : Field) (n : ℕ) → readColumn division f ≡ good n → isText f ≡ false
+unfolding readColumn signedBits next isText
+division-plain (num k) n e = refl
+division-plain (minus k) n e = refl
+division-plain (name s) n e = not-good e
+division-plain (quoted d) n e = not-good e
+
 mode-text : (f : Field) (n : ℕ) → readColumn mode f ≡ good n → isText f ≡ true
 unfolding readColumn isText
 mode-text (num k) n e = not-good e
@@ -161,6 +169,7 @@ column-plain (range lo hi) cs t f n p e = (number-plain lo hi f n e, p)
 column-plain key cs t f n p e = (key-plain f n e, p)
 column-plain mode cs t f n p e = absurd (false≢true p)
 column-plain freeType cs t f n p e = (free-plain f n e, p)
+column-plain division cs t f n p e = (division-plain f n e, p)
 
 columns-plain : (cs : List Column) (t : Tail) (fs : List Field) (v : Values) → numberColumns cs t ≡ true → Fits (length cs) t fs → readColumns cs t fs ≡ good v → AllPlain fs
 unfolding readColumns
@@ -184,6 +193,7 @@ no-text i (range lo hi ∷ cs) t p = no-text (suc i) cs t p
 no-text i (key ∷ cs) t p = no-text (suc i) cs t p
 no-text i (mode ∷ cs) t p = absurd (false≢true p)
 no-text i (freeType ∷ cs) t p = no-text (suc i) cs t p
+no-text i (division ∷ cs) t p = no-text (suc i) cs t p
 
 text-third : (cs : List Column) (t : Tail) → cs ≡ [] → t ≡ oneText → textFrom 3 cs t ≡ after 3
 unfolding textFrom

@@ -205,7 +205,7 @@ module _ (f : List ℕ) (p : Piece) (w : Way) (l : LaidOut f p) where
   cells-read s ws e =
       ap (λ y. pieceOfText (tableText (savedIn y))) e
       ∙ rows-read s (w .emptyRows) (w .marked) (w .carriage) (w .lastEnd) (savedRows (sepByte s) ws (pieceRecords p)) (pieceRecords p) p
-      (saved-rows s ws (pieceRecords p) sound) (saved-found s (w .emptyRows) ws p (l .has .lawful)) (piece-run p 1 layable)
+      (saved-rows s ws (pieceRecords p) sound) (saved-found s (w .emptyRows) ws p (l .has .lawful)) (piece-run p 1 (l .has .lawful .division) layable)
 
   -- a cell for each line
   pub wrapped-read : (qs : List Bool) → w .layout ≡ inOneCell qs → pieceOfText (tableText (saved w p)) ≡ ok p []
@@ -213,7 +213,7 @@ module _ (f : List ℕ) (p : Piece) (w : Way) (l : LaidOut f p) where
   wrapped-read qs e =
       ap (λ y. pieceOfText (tableText (savedIn y))) e
       ∙ rows-read comma (w .emptyRows) (w .marked) (w .carriage) (w .lastEnd) (wrappedRows qs (pieceRecords p)) (pieceRecords p) p
-      (wrapped-rows qs (pieceRecords p) sound) (wrapped-found (w .emptyRows) qs p sound) (piece-run p 1 layable)
+      (wrapped-rows qs (pieceRecords p) sound) (wrapped-found (w .emptyRows) qs p sound) (piece-run p 1 (l .has .lawful .division) layable)
 
   layout-read : (y : Layout) → w .layout ≡ y → pieceOfText (tableText (saved w p)) ≡ ok p []
   layout-read (inCells s ws) e = cells-read s ws e

@@ -8,7 +8,7 @@ use lib.ListN.{length}
 use Rattle.event.specs.Choice.{pick}
 use Rattle.event.proofs.ChoiceLaws.{by-test, pick-true, pick-false}
 use Rattle.midicsv.specs.Field.{Field, name}
-use Rattle.midicsv.specs.Table.{spelled, Column, range, key, mode, freeType, Tail, none, oneText, sized, shape}
+use Rattle.midicsv.specs.Table.{spelled, Column, range, key, mode, freeType, division, Tail, none, oneText, sized, shape}
 use Rattle.midicsv.specs.Record.{Record, tailFields, fieldsOf, recordFields}
 use Rattle.midicsv.specs.Result.{good}
 use Rattle.midicsv.specs.ReadField.{skip}
@@ -125,6 +125,7 @@ place-among n i (range lo hi ∷ cs) t (m ∷ ns) d h k = place-among n (suc i) 
 place-among n i (key ∷ cs) t (m ∷ ns) d h k = place-among n (suc i) cs t ns d (h .1) (omega arith)
 place-among n i (mode ∷ cs) t (m ∷ ns) d h k = omega arith
 place-among n i (freeType ∷ cs) t (m ∷ ns) d h k = place-among n (suc i) cs t ns d (h .1) (omega arith)
+place-among n i (division ∷ cs) t (m ∷ ns) d h k = place-among n (suc i) cs t ns d (h .1) (omega arith)
 
 cells-count : (fs : List Field) → length (cellsOf fs) ≡ length fs
 unfolding cellsOf

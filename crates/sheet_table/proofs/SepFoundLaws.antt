@@ -1,18 +1,20 @@
 -- The separator of a saved table is found in its first row, the Header's.
 use mathlib.Core.Path.{_≡_, refl, ap₂, _∙_}
-use Prim.Native.Nat.{ℕ, _≤_, _<_}
+use Prim.Native.Nat.{ℕ, _-_, _≤_, _<_}
 use mathlib.Core.Bool.{Bool, true, false, false≢true, _||_}
 use mathlib.Core.List.{List, [], _∷_, _++_}
 use mathlib.Core.Logic.{_⊎_, inl, inr}
 use native.Mathlib.Omega.{arith}
 use lib.ListN.{length}
-use lib.Dec.{eqb}
+use lib.Dec.{leb, eqb}
 use borrow.Author.Tests.{ne-eqb, eqb-true}
 use Rattle.event.specs.Choice.{pick}
 use Rattle.event.proofs.ChoiceLaws.{by-test, pick-true, pick-false}
-use Rattle.smf.specs.Piece.{Piece, LawfulDivision, LawfulPiece}
+use Rattle.smf.specs.Division.{bits}
+use Rattle.smf.specs.Piece.{Piece, LawfulPiece}
+use Rattle.smf.proofs.DivisionLaws.{division-fits}
 use Rattle.midicsv.specs.Field.{decimal, Field}
-use Rattle.midicsv.specs.Table.{header, spelled, shape}
+use Rattle.midicsv.specs.Table.{header, spelled, division, shape}
 use Rattle.midicsv.specs.Record.{columnField, tailFields, fieldsOf, recordFields}
 use Rattle.midicsv.specs.Text.{headerRecord}
 use Rattle.midicsv.proofs.AllLaws.{All, Digit}
@@ -33,14 +35,14 @@ row-has s [] xs f g fs = has-later (sepByte s) (savedCell (sepByte s) false (cel
 row-has s (q ∷ []) xs f g fs = has-later (sepByte s) (savedCell (sepByte s) q (cellOf f)) _ (parts s .same)
 row-has s (q ∷ p ∷ qs) xs f g fs = has-later (sepByte s) (savedCell (sepByte s) q (cellOf f)) _ (parts s .same)
 
--- ---- the Header's cells are digits and letters
+-- ---- the Header's cells are digits, letters and a minus
 
 has-none : (k : ℕ) (l : List ℕ) → All (λ x. eqb x k ≡ false) l → has k l ≡ false
 unfolding has
 has-none k [] a = refl
 has-none k (x ∷ l) a = ap₂ _||_ (a .0) (has-none k l (a .1))
 
-module _ (k : ℕ) (digit : (k < 48) ⊎ (57 < k)) (letters : All (λ x. eqb x k ≡ false) (spelled header)) where
+module _ (k : ℕ) (digit : (k < 48) ⊎ (57 < k)) (sign : eqb 45 k ≡ false) (letters : All (λ x. eqb x k ≡ false) (spelled header)) where
   digit-other : (x : ℕ) → Digit x → (k < 48) ⊎ (57 < k) → eqb x k ≡ false
   digit-other x d (inl h) = ne-eqb x k (λ e. omega arith)
   digit-other x d (inr h) = ne-eqb x k (λ e. omega arith)
@@ -52,10 +54,15 @@ module _ (k : ℕ) (digit : (k < 48) ⊎ (57 < k)) (letters : All (λ x. eqb x k
   number-other : (n : ℕ) → n ≤ 4294967295 → All (λ x. eqb x k ≡ false) (decimal n)
   number-other n h = digits-other (decimal n) (decimal-digits n h .1)
 
+  division-other : (n : ℕ) → n < 65536 → All (λ x. eqb x k ≡ false) (cellOf (columnField division n))
+  unfolding columnField cellOf pick
+  division-other n h =
+      by-test (leb n 32767) (λ t. rw t (number-other n (omega arith))) (λ t. rw t (sign, number-other (65536 - n) (omega arith)))
+
   header-other : (p : Piece) → LawfulPiece p → InCells (λ x. eqb x k ≡ false) (recordFields (headerRecord p))
-  unfolding headerRecord shape fieldsOf columnField tailFields cellOf InCells LawfulDivision
+  unfolding headerRecord shape fieldsOf columnField tailFields cellOf InCells
   header-other p l =
-      (number-other 0 (omega arith), (number-other 0 (omega arith), (letters, (number-other (p .format) (omega (arith, l .format)), (number-other (length (p .tracks)) (omega (arith, l .few)), (number-other (p .division .pulses) (omega (arith, l .division)), tt))))))
+      (number-other 0 (omega arith), (number-other 0 (omega arith), (letters, (number-other (p .format) (omega (arith, l .format)), (number-other (length (p .tracks)) (omega (arith, l .few)), (division-other (bits (p .division)) (division-fits (p .division) (l .division)), tt))))))
 
   -- so the row has no other separator
   no-other : (sep : ℕ) (qs xs : List Bool) (p : Piece) → LawfulPiece p → eqb 34 k ≡ false → eqb sep k ≡ false → has k (savedRow sep qs xs (recordFields (headerRecord p))) ≡ false
@@ -63,11 +70,11 @@ module _ (k : ℕ) (digit : (k < 48) ⊎ (57 < k)) (letters : All (λ x. eqb x k
 
 no-comma : (sep : ℕ) (qs xs : List Bool) (p : Piece) → LawfulPiece p → eqb sep 44 ≡ false → has 44 (savedRow sep qs xs (recordFields (headerRecord p))) ≡ false
 unfolding spelled
-no-comma sep qs xs p l e = no-other 44 (inl (omega arith)) (refl, (refl, (refl, (refl, (refl, (refl, tt)))))) sep qs xs p l refl e
+no-comma sep qs xs p l e = no-other 44 (inl (omega arith)) refl (refl, (refl, (refl, (refl, (refl, (refl, tt)))))) sep qs xs p l refl e
 
 no-semicolon : (sep : ℕ) (qs xs : List Bool) (p : Piece) → LawfulPiece p → eqb sep 59 ≡ false → has 59 (savedRow sep qs xs (recordFields (headerRecord p))) ≡ false
 unfolding spelled
-no-semicolon sep qs xs p l e = no-other 59 (inr (omega arith)) (refl, (refl, (refl, (refl, (refl, (refl, tt)))))) sep qs xs p l refl e
+no-semicolon sep qs xs p l e = no-other 59 (inr (omega arith)) refl (refl, (refl, (refl, (refl, (refl, (refl, tt)))))) sep qs xs p l refl e
 
 pub cells-sep : (s : Separator) (qs xs : List Bool) (p : Piece) → LawfulPiece p → sepIn (savedRow (sepByte s) qs xs (recordFields (headerRecord p))) ≡ sepByte s
 unfolding sepIn sepByte

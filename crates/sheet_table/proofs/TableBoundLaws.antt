@@ -10,7 +10,7 @@ use Rattle.event.specs.Choice.{pick}
 use Rattle.event.specs.Outcome.{Outcome, ok, refused}
 use Rattle.event.proofs.ChoiceLaws.{by-test}
 use Rattle.midicsv.specs.Field.{Field}
-use Rattle.midicsv.specs.Table.{RecordName, Column, range, key, mode, freeType, Tail, none, oneText, sized, shape}
+use Rattle.midicsv.specs.Table.{RecordName, Column, range, key, mode, freeType, division, Tail, none, oneText, sized, shape}
 use Rattle.midicsv.specs.Result.{Result, good, bad}
 use Rattle.midicsv.specs.ReadField.{isBlank, skip, readField}
 use Rattle.midicsv.specs.Names.{nameFrom}
@@ -201,6 +201,7 @@ from-least i (range lo hi ∷ cs) t k e = omega (arith, from-least (suc i) cs t 
 from-least i (key ∷ cs) t k e = omega (arith, from-least (suc i) cs t k e)
 from-least i (mode ∷ cs) t k e = let same : i ≡ k = cc in omega arith
 from-least i (freeType ∷ cs) t k e = omega (arith, from-least (suc i) cs t k e)
+from-least i (division ∷ cs) t k e = omega (arith, from-least (suc i) cs t k e)
 
 of-name : {X : Type 0} (m : Result RecordName) (k : ℕ) → textOfName m ≡ after k → ((n : RecordName) → m ≡ good n → 3 ≤ k → X) → X
 unfolding textOfName

@@ -8,7 +8,7 @@ use lib.Dec.{eqb}
 use Rattle.event.specs.Choice.{pick}
 use Rattle.event.specs.Outcome.{Outcome, ok, refused}
 use Rattle.midicsv.specs.Field.{Field}
-use Rattle.midicsv.specs.Table.{RecordName, Column, range, key, mode, freeType, Tail, none, oneText, sized, shape}
+use Rattle.midicsv.specs.Table.{RecordName, Column, range, key, mode, freeType, division, Tail, none, oneText, sized, shape}
 use Rattle.midicsv.specs.Result.{Result, good, bad}
 use Rattle.midicsv.specs.ReadField.{skip, readField}
 use Rattle.midicsv.specs.Names.{nameFrom}
@@ -78,6 +78,7 @@ textFrom i (range lo hi ∷ cs) t = textFrom (suc i) cs t
 textFrom i (key ∷ cs) t = textFrom (suc i) cs t
 textFrom i (mode ∷ cs) t = after i
 textFrom i (freeType ∷ cs) t = textFrom (suc i) cs t
+textFrom i (division ∷ cs) t = textFrom (suc i) cs t
 
 -- "In the seven texts .. the text cell is the fourth, in Key_signature the fifth, in all others there is none": after Track, Time and name
 unfoldable pub textOfName : Result RecordName → TextPlace

@@ -1,4 +1,4 @@
--- The worked example in its sheet form, and as two spreadsheets save it.
+-- The worked example in its sheet form, and as two spreadsheets save it; a film division in its sheet form.
 use Prim.Native.Nat.{ℕ}
 use mathlib.Core.Bool.{true, false}
 use mathlib.Core.List.{List, [], _∷_}
@@ -9,6 +9,10 @@ use Rattle.sheet_table.specs.Ways.{semicolon, inCells, inOneCell, Way}
 abbrev pub exampleSheet : List ℕ
 exampleSheet =
     bytes "0,0,Header,0,1,96\n1,0,Start_track\n1,0,Title_t,\"A\\042\"\n1,0,Note_on_c,0,60,64\n1,96,Note_on_c,0,60,0\n1,96,End_track\n0,0,End_of_file\n"
+
+-- that of 25 frames of 40 ticks and one track of End_track alone
+abbrev pub filmSheet : List ℕ
+filmSheet = bytes "0,0,Header,0,1,-6360\n1,0,Start_track\n1,0,End_track\n0,0,End_of_file\n"
 
 -- semicolons, a byte order mark, CR LF, an empty row of two cells, no end of the last line; "Header" is quoted, and three empty cells, one of
 -- them quoted, follow Start_track

@@ -1,5 +1,5 @@
 -- A file that is accepted: its piece, and its header and tracks as the program reads them.
-use mathlib.Core.Path.{_≡_, sym, ap, _∙_}
+use mathlib.Core.Path.{_≡_, sym, ap, subst, _∙_}
 use Prim.Native.Nat.{ℕ, _≤_}
 use mathlib.Core.Bool.{Bool, true, false}
 use mathlib.Core.List.{List}
@@ -7,11 +7,12 @@ use lib.ListN.{length}
 use Rattle.event.specs.Bytes.{Bytes}
 use Rattle.event.specs.Outcome.{Outcome, ok, andThen, check, Readable}
 use Rattle.event.proofs.OutcomeLaws.{check-ok, readable-ok}
+use Rattle.smf.specs.Division.{LawfulDivision}
 use Rattle.smf.specs.Piece.{Piece}
 use Rattle.smf.specs.Reader.{readHeader, readPiece, fileLimit, readFile}
 use Rattle.smf.specs.Answer.{verdict}
 use Rattle.smf.specs.PieceRead.{pieceFrom, pieceRead}
-use Rattle.smf.specs.Step.{headerStep}
+use Rattle.smf.specs.Step.{divisionFrom, headerStep}
 use Rattle.smf.specs.declared.Answer.{Answer}
 use Rattle.smf.specs.declared.Division.{Division}
 use Rattle.smf.specs.declared.HeaderStep.the-variants.{Fields, BadHeader}
@@ -41,7 +42,8 @@ read-piece s p r bs e = piece-is s p r bs (check-ok _ 1 0 _ p r e .1)
 pub record Headed (s : List ℕ) (a : ℕ) (d : Division) (p : Piece) : Type 0 where
   pub same : pieceRead s ≡ p
   pub format : p .format ≡ a
-  pub division : p .division ≡ record { pulses = d .0 }
+  pub division : p .division ≡ divisionFrom d
+  pub lawful : LawfulDivision (divisionFrom d)
 
 pub headed : (s : List ℕ) (a b : ℕ) (d : Division) (n : ℕ) → Bytes s → headerStep (length s) (readHeader s) ≡ Fields a b d n → (there : Accepted s b n) → Headed s a d (there .piece)
 unfolding pieceRead pieceFrom
@@ -49,7 +51,13 @@ headed s a b d n bs e there =
     let p = there .piece in
     let same : pieceFrom s (headerStep (length s) (readHeader s)) ≡ p = read-piece s p (there .rest) bs (there .read) in
     let head : pieceFrom s (Fields a b d n) ≡ p = ap (pieceFrom s) (sym e) ∙ same in
-    record { same = same; format = ap (λ z. z .format) (sym head); division = ap (λ z. z .division) (sym head) }
+    let division : p .division ≡ divisionFrom d = ap (λ z. z .division) (sym head) in
+    record {
+      same = same;
+      format = ap (λ z. z .format) (sym head);
+      division = division;
+      lawful = subst LawfulDivision division (file-sound s p (there .rest) bs (there .read) .0 .laid .has .lawful .division);
+    }
 
 -- ---- what the answer 0 of checking says
 

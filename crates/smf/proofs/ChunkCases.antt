@@ -11,8 +11,9 @@ use Rattle.event.specs.Layout.{layChannel, layFrame, layEvent}
 use Rattle.event.specs.Outcome.{ok, andThen, check, placed}
 use Rattle.event.specs.Reader.{readMore, readVlq, readData, readNumber, dataByte, oneData, twoData, oneByte, channelData, isChannel, lengthOk, valueOk, metaData, readMetaOf, readMeta, readFrame, kind2, metaOf, kindIn, readEvent}
 use Rattle.smf.specs.Layout.{layEvents, layChunk, layChunks, layTrack, layTracks, layDivision, layHeader, layPiece}
+use Rattle.smf.specs.Division.{rateOk, inRange, bits, divisionOf, divisionOk}
 use Rattle.smf.specs.Piece.{tracksFit}
-use Rattle.smf.specs.Reader.{ended, goOn, readEvents, readAll, readChunk, readTrack, readTracks, countOk, divisionOk, readHeader, readHead, findTrack, passOver, readBehind, readPiece, readFile}
+use Rattle.smf.specs.Reader.{ended, goOn, readEvents, readAll, readChunk, readTrack, readTracks, countOk, readHeader, readHead, findTrack, passOver, readBehind, readPiece, readFile}
 use Rattle.smf.specs.Slips.{AllRefused}
 use Rattle.smf.specs.ChunkCases.{chunkPiece, chunkSpelling, chunkFile, chunkRefusals}
 
@@ -22,7 +23,7 @@ pub record ChunkExample : Type 0 where
   pub refused : AllRefused chunkRefusals
 
 pub chunk-example : ChunkExample
-unfolding AllRefused readFile readPiece readTracks readTrack readChunk readHeader readNumber readData number horner countOk tracksFit divisionOk readHead findTrack passOver readBehind readAll readEvents readEvent goOn ended isEnd andThen check placed pick readVlq readMore readFrame channelData isChannel oneData twoData dataByte readMeta readMetaOf metaData oneByte after kindOf lengthOk valueOk kindIn kind2 metaOf frame bigEndian bytesOnto layPiece layHeader layDivision layTracks layTrack layChunks layChunk layEvents layEvent layFrame layChannel vlq
+unfolding AllRefused readFile readPiece readTracks readTrack readChunk readHeader readNumber readData number horner countOk tracksFit rateOk inRange bits divisionOf divisionOk readHead findTrack passOver readBehind readAll readEvents readEvent goOn ended isEnd andThen check placed pick readVlq readMore readFrame channelData isChannel oneData twoData dataByte readMeta readMetaOf metaData oneByte after kindOf lengthOk valueOk kindIn kind2 metaOf frame bigEndian bytesOnto layPiece layHeader layDivision layTracks layTrack layChunks layChunk layEvents layEvent layFrame layChannel vlq
 chunk-example =
     record {
       laid = refl;

@@ -14,8 +14,9 @@ use Rattle.event.specs.Reader.{readMore, readVlq, readData, readNumber, dataByt
 use Rattle.smf.specs.Layout.{layEvents, layChunk, layChunks, layTrack, layTracks, layDivision, layHeader, layPiece}
 use Rattle.event.specs.Manner.{full, short, statusIn, restIn, spellEvent}
 use Rattle.smf.specs.Manner.{spellEvents, spellTracks, spelling, fileOf}
+use Rattle.smf.specs.Division.{rateOk, inRange, bits, divisionOf, divisionOk}
 use Rattle.smf.specs.Piece.{tracksFit}
-use Rattle.smf.specs.Reader.{ended, goOn, readEvents, readAll, readChunk, readTrack, readTracks, countOk, divisionOk, readHeader, readHead, findTrack, passOver, readBehind, readPiece, readFile}
+use Rattle.smf.specs.Reader.{ended, goOn, readEvents, readAll, readChunk, readTrack, readTracks, countOk, readHeader, readHead, findTrack, passOver, readBehind, readPiece, readFile}
 use Rattle.smf.specs.Example.{shortExample, fullExample, examplePiece}
 
 pub record WorkedExample : Type 0 where
@@ -27,5 +28,5 @@ pub record WorkedExample : Type 0 where
   pub sizeFull : length fullExample ≡ 40
 
 pub worked-example : WorkedExample
-unfolding readFile readPiece readTracks readTrack readChunk readHeader readNumber readData number horner countOk tracksFit divisionOk readHead findTrack passOver readBehind readAll readEvents readEvent goOn ended isEnd andThen check placed pick readVlq readMore readFrame channelData isChannel oneData twoData dataByte readMeta readMetaOf metaData oneByte after kindOf lengthOk valueOk kindIn kind2 metaOf frame bigEndian bytesOnto fileOf spelling spellTracks spellEvents spellEvent restIn statusIn least layPiece layHeader layDivision layTracks layTrack layChunks layChunk layEvents layEvent layFrame layChannel vlq
+unfolding readFile readPiece readTracks readTrack readChunk readHeader readNumber readData number horner countOk tracksFit rateOk inRange bits divisionOf divisionOk readHead findTrack passOver readBehind readAll readEvents readEvent goOn ended isEnd andThen check placed pick readVlq readMore readFrame channelData isChannel oneData twoData dataByte readMeta readMetaOf metaData oneByte after kindOf lengthOk valueOk kindIn kind2 metaOf frame bigEndian bytesOnto fileOf spelling spellTracks spellEvents spellEvent restIn statusIn least layPiece layHeader layDivision layTracks layTrack layChunks layChunk layEvents layEvent layFrame layChannel vlq
 worked-example = record { read = refl; readFull = refl; written = refl; writtenFull = refl; size = refl; sizeFull = refl }

@@ -17,11 +17,13 @@ use Rattle.event.specs.Reader.{readNumber}
 use Rattle.event.proofs.ChoiceLaws.{or-cases, and-both}
 use Rattle.event.proofs.OutcomeLaws.{ok-same, andThen-ok, andThen-eq, check-ok, check-eq}
 use Rattle.event.proofs.BytesLaws.{bytes-left, bytes-right, length-bigEndian, number-read, number-sound}
-use Rattle.smf.specs.Piece.{Division, Piece, Header, tracksFit, LawfulEvents, LawfulTracks, LawfulDivision, LawfulPiece}
+use Rattle.smf.specs.Division.{Division, LawfulDivision, bits, divisionOf}
+use Rattle.smf.specs.Piece.{Piece, Header, tracksFit, LawfulEvents, LawfulTracks, LawfulPiece}
 use Rattle.smf.specs.Chunk.{headerTag, Chunk, AllPassed}
 use Rattle.smf.specs.Spelling.{TrackSpelling, PieceSpelling, PermittedEvents, PermittedTracks}
 use Rattle.smf.specs.Layout.{layEvents, layChunks, layTrack, layTracks, layDivision, layHeader, layPiece, ShortTracks, HasLayout, LaidOut}
-use Rattle.smf.specs.Reader.{readAll, readChunk, readTrack, readTracks, countOk, divisionOk, readHeader, readBehind, readPiece, fileLimit, readFile}
+use Rattle.smf.specs.Reader.{readAll, readChunk, readTrack, readTracks, countOk, readHeader, readBehind, readPiece, fileLimit, readFile}
+use Rattle.smf.proofs.DivisionLaws.{division-back, division-yes, division-is, bits-back, division-fits}
 use Rattle.smf.proofs.TrackLaws.{all-read, events-sound}
 use Rattle.smf.proofs.PassedLaws.{chunk-read, chunk-sound, behind-read, BehindLaid, behind-sound}
 
@@ -127,14 +129,6 @@ count-is : (format n : ℕ) → countOk format n ≡ true → (1 ≤ n) × (form
 unfolding countOk
 count-is format n e = let (a, b) = and-both (leb 1 n) _ e in (leb-true 1 n a, fit-is format n b)
 
-division-yes : (d : Division) → LawfulDivision d → divisionOk (d .pulses) ≡ true
-unfolding divisionOk LawfulDivision
-division-yes d h = rw (le-leb 1 (d .pulses) (h .0), le-leb (d .pulses) 32767 (h .1))
-
-division-is : (n : ℕ) → divisionOk n ≡ true → LawfulDivision (record { pulses = n })
-unfolding divisionOk LawfulDivision
-division-is n e = let (a, b) = and-both (leb 1 n) (leb n 32767) e in (leb-true 1 n a, leb-true n 32767 b)
-
 -- what a header must be, apart from its bytes
 pub record LawfulHeader (h : Header) : Type 0 where
   pub format : h .format ≤ 2
@@ -156,18 +150,18 @@ header-long format count d extra l = omega (arith, header-size format count d ex
 
 pub header-read : (h : Header) (extra l : List ℕ) → LawfulHeader h → 6 + length extra ≤ 4294967295
     → readHeader (layHeader (h .format) (h .count) (h .division) extra l) ≡ ok h l
-unfolding readHeader layHeader layDivision LawfulDivision
+unfolding readHeader layHeader layDivision
 header-read h extra l k small =
     let n : ℕ = length extra in
-    let size : length (bigEndian 2 (h .format) ++ (bigEndian 2 (h .count) ++ (bigEndian 2 (h .division .pulses) ++ (extra ++ l)))) ≡ 6 + (n + length l) = simp (length-append, length-bigEndian) (omega arith) in
+    let size : length (bigEndian 2 (h .format) ++ (bigEndian 2 (h .count) ++ (bigEndian 2 (bits (h .division)) ++ (extra ++ l)))) ≡ 6 + (n + length l) = simp (length-append, length-bigEndian) (omega arith) in
     let less : 6 + n - 6 ≡ n = omega arith in
     check-eq 2 0 _ (le-leb 14 _ (header-long (h .format) (h .count) (h .division) extra l))
     ∙ andThen-eq _ (number-read 4 headerTag _ (omega arith)) ∙ check-eq 3 0 _ refl
     ∙ andThen-eq _ (number-read 4 (6 + n) _ (omega arith)) ∙ check-eq 3 4 _ (le-leb 6 (6 + n) (omega arith)) ∙ check-eq 2 0 _ (le-leb (6 + n) _ (omega (arith, size)))
     ∙ andThen-eq _ (number-read 2 (h .format) _ (omega arith)) ∙ check-eq 3 8 _ (le-leb (h .format) 2 (k .format))
     ∙ andThen-eq _ (number-read 2 (h .count) _ (omega arith)) ∙ check-eq 3 10 _ (count-yes (h .format) (h .count) (k .some) (k .single))
-    ∙ andThen-eq _ (number-read 2 (h .division .pulses) _ (omega arith)) ∙ check-eq 3 12 _ (division-yes (h .division) (k .division))
-    ∙ ap (ok h) (ap (λ z. drop z (extra ++ l)) less ∙ drop-append-seam extra l)
+    ∙ andThen-eq _ (number-read 2 (bits (h .division)) _ (division-fits (h .division) (k .division))) ∙ check-eq 3 12 _ (division-yes (h .division) (k .division))
+    ∙ ap₂ (λ d z. ok (record { format = h .format; count = h .count; division = d }) z) (division-back (h .division) (k .division)) (ap (λ z. drop z (extra ++ l)) less ∙ drop-append-seam extra l)
 
 pub record HeaderLaid (f : List ℕ) (h : Header) (l : List ℕ) : Type 0 where
   pub extra : List ℕ
@@ -179,9 +173,9 @@ pub record HeaderLaid (f : List ℕ) (h : Header) (l : List ℕ) : Type 0 where
 
 header-bytes : (f l1 l2 l3 l4 l5 x l : List ℕ) (tag size format n d : ℕ)
     → f ≡ bigEndian 4 tag ++ l1 → tag ≡ headerTag → l1 ≡ bigEndian 4 size ++ l2 → size ≡ 6 + length x → l2 ≡ bigEndian 2 format ++ l3 → l3 ≡ bigEndian 2 n ++ l4
-    → l4 ≡ bigEndian 2 d ++ l5 → l5 ≡ x ++ l → f ≡ layHeader format n (record { pulses = d }) x l
+    → l4 ≡ bigEndian 2 d ++ l5 → l5 ≡ x ++ l → bits (divisionOf d) ≡ d → f ≡ layHeader format n (divisionOf d) x l
 unfolding layHeader layDivision
-header-bytes f l1 l2 l3 l4 l5 x l tag size format n d h1 t1 h2 t2 h3 h4 h5 h6 = cc
+header-bytes f l1 l2 l3 l4 l5 x l tag size format n d h1 t1 h2 t2 h3 h4 h5 h6 h7 = rw h7 cc
 
 -- three numbers of two bytes
 six : (a b c : ℕ) (l2 l3 l4 l5 : List ℕ) → l2 ≡ bigEndian 2 a ++ l3 → l3 ≡ bigEndian 2 b ++ l4 → l4 ≡ bigEndian 2 c ++ l5 → length l2 ≡ 6 + length l5
@@ -213,7 +207,7 @@ header-sound f h r bs e =
       extra = x;
       lawful = record { format = leb-true format 2 c3; some = some; few = omega arith; single = single; division = division-is d c5 };
       small = omega arith;
-      bytes = header-bytes f l1 l2 l3 l4 l5 x (drop (size - 6) l5) tag size format n d (h1 .bytes) (eqb-true tag headerTag c1) (h2 .bytes) sizes (h3 .bytes) (h4 .bytes) (h5 .bytes) (sym s);
+      bytes = header-bytes f l1 l2 l3 l4 l5 x (drop (size - 6) l5) tag size format n d (h1 .bytes) (eqb-true tag headerTag c1) (h2 .bytes) sizes (h3 .bytes) (h4 .bytes) (h5 .bytes) (sym s) (bits-back d (h5 .fits));
       inside = bytes-left x (drop (size - 6) l5) both;
       after = bytes-right x (drop (size - 6) l5) both;
     })))))))

@@ -8,18 +8,19 @@ use lib.ListN.{length, drop, length-drop}
 use lib.Seq.{drop-drop}
 use lib.Dec.{leb, eqb}
 use borrow.Author.Tests.{le-leb, lt-leb, eq-eqb, ne-eqb}
-use Rattle.event.specs.Bytes.{number}
+use Rattle.event.specs.Bytes.{Bytes, number}
 use Rattle.event.specs.Outcome.{ok, andThen, check}
 use Rattle.event.specs.Reader.{readNumber}
 use Rattle.event.specs.Step.{bytesFrom}
 use Rattle.event.proofs.OutcomeLaws.{check-eq}
-use Rattle.event.proofs.BytesLaws.{number-at}
+use Rattle.event.proofs.BytesLaws.{bytes-drop, number-at, number-sound}
 use Rattle.event.proofs.PlaceLaws.{place-back}
 use Rattle.event.proofs.RowLaws.{take-from}
 use Rattle.smf.specs.Chunk.{headerTag}
+use Rattle.smf.specs.Division.{divisionOf, divisionOk}
 use Rattle.smf.specs.Piece.{tracksFit}
-use Rattle.smf.specs.Reader.{countOk, divisionOk, readHeader}
-use Rattle.smf.specs.Step.{headerStep}
+use Rattle.smf.specs.Reader.{countOk, readHeader}
+use Rattle.smf.specs.Step.{divisionStep, headerStep}
 use Rattle.smf.specs.declared.HeaderStep.{HeaderStep}
 use Rattle.smf.specs.declared.HeaderStep.the-variants.{Fields, BadHeader}
 
@@ -43,7 +44,7 @@ module _ (s : List ℕ) (h : 14 ≤ length s) where
   chain : readHeader s
       ≡ check (eqb (N s 4 0) headerTag) 3 0 (check (leb 6 (N s 4 4)) 3 4 (check (leb (N s 4 4) (length (drop 8 s))) 2 0
       (check (leb (N s 2 8) 2) 3 8 (check (countOk (N s 2 8) (N s 2 10)) 3 10
-      (check (divisionOk (N s 2 12)) 3 12 (ok (record { format = N s 2 8; count = N s 2 10; division = record { pulses = N s 2 12 } }) (drop (N s 4 4 - 6) (drop 14 s))))))))
+      (check (divisionOk (N s 2 12)) 3 12 (ok (record { format = N s 2 8; count = N s 2 10; division = divisionOf (N s 2 12) }) (drop (N s 4 4 - 6) (drop 14 s))))))))
   unfolding readHeader andThen
   chain =
       let q0 : readNumber 4 s ≡ ok (N s 4 0) (drop 4 s) = number-there s 4 0 (omega arith) in
@@ -106,7 +107,7 @@ module _ (s : List ℕ) (h : 14 ≤ length s) where
                   let z : divisionOk (N s 2 12) ≡ false = rw (← e4) n in
                   simp (chain, y0, long, whole, y2, y3, z)
 
-              pub head-fine : divisionOk x4 ≡ true → Fields x2 x3 (record { 0 = x4 }) (8 + x1) ≡ H s
+              pub head-fine : divisionOk x4 ≡ true → Fields x2 x3 (divisionStep (divisionOf x4)) (8 + x1) ≡ H s
               unfolding check headerStep
               head-fine n =
                   let z : divisionOk (N s 2 12) ≡ true = rw (← e4) n in
@@ -128,10 +129,8 @@ pub count-many : (format n : ℕ) → (n ≡ 0 → ⊥) → (format ≡ 0 → �
 unfolding countOk tracksFit
 count-many format n h e = simp (ne-eqb format 0 e, le-leb 1 n (omega arith))
 
-pub division-none : (n : ℕ) → n ≡ 0 → false ≡ divisionOk n
-unfolding divisionOk
-division-none n e = rw e
-
-pub division-some : (n : ℕ) → (n ≡ 0 → ⊥) → leb n 32767 ≡ divisionOk n
-unfolding divisionOk
-division-some n h = simp (le-leb 1 n (omega arith))
+pub two-bytes : (s : List ℕ) (p x : ℕ) → Bytes s → p + 2 ≤ length s → x ≡ N s 2 p → x ≤ 65535
+two-bytes s p x bs h e =
+    let laid = number-sound 2 (drop p s) (N s 2 p) (drop (p + 2) s) (bytes-drop s p bs) (number-there s 2 p h) in
+    let k : N s 2 p < 65536 = laid .fits in
+    omega arith

@@ -1,4 +1,5 @@
 pub mod TrackLaws
+pub mod DivisionLaws
 pub mod PassedLaws
 pub mod FileLaws
 pub mod DemandLaws
@@ -7,6 +8,7 @@ pub mod Example
 pub mod RefusalLaws
 pub mod Slips
 pub mod ChunkCases
+pub mod DivisionCases
 pub mod HeaderLaws
 pub mod CameLaws
 pub mod WalkLaws

@@ -20,10 +20,11 @@ use Rattle.event.proofs.DataLaws.{kind-there}
 use Rattle.event.proofs.StepLaws.{end-of}
 use Rattle.smf.specs.Piece.{Piece}
 use Rattle.smf.specs.Reader.{readEvents, readAll, readChunk, readTrack, readTracks, readHeader, readBehind, readPiece}
-use Rattle.smf.specs.Step.{headerStep, chunkStep}
+use Rattle.smf.specs.Step.{divisionStep, headerStep, chunkStep}
 use Rattle.smf.specs.PieceRead.{untilEnd, eventsRead, trackRead, tracksRead, pieceFrom, pieceRead}
 use Rattle.smf.specs.declared.ChunkStep.{ChunkStep}
 use Rattle.smf.specs.declared.ChunkStep.the-variants.{Body, BadChunk}
+use Rattle.smf.proofs.DivisionLaws.{division-same}
 use Rattle.smf.proofs.TrackLaws.{go-sound}
 use Rattle.smf.proofs.PassedLaws.{chunk-sound}
 use Rattle.smf.proofs.RefusalLaws.{chunk-size}
@@ -129,9 +130,9 @@ unfolding readPiece pieceRead pieceFrom headerStep
 piece-is f p r bs e =
     andThen-ok (readHeader f) _ p r e (λ h l qh e1.
     andThen-ok _ _ p r e1 (λ ts m qt e2.
-    let there = head-at f (h .format) (h .count) (record { 0 = h .division .pulses }) (length f - length l) bs (ap (headerStep (length f)) qh) in
+    let there = head-at f (h .format) (h .count) (divisionStep (h .division)) (length f - length l) bs (ap (headerStep (length f)) qh) in
     let rest : drop (length f - length l) f ≡ l = ok-same (there .header) h _ l (sym (there .read) ∙ qh) (λ a b. b) in
     let tracks = tracks-are (h .count) (length f - length l) f ts m bs (there .inside) (ap (readTracks (h .count) (length f - length l)) rest ∙ qt) in
     andThen-ok (readBehind (length f - length m) m) _ p r e2 (λ cs q q7 e7.
     ok-same _ p q r e7 (λ same qr.
-    rw qh (ap (λ z. record { format = h .format; division = record { pulses = h .division .pulses }; tracks = z }) tracks) ∙ same))))
+    rw qh (ap₂ (λ d z. record { format = h .format; division = d; tracks = z }) (division-same (h .division)) tracks) ∙ same))))

@@ -10,12 +10,13 @@ use Rattle.event.specs.Event.{isEnd, Fits, unknownMeta, noteOn}
 use Rattle.event.specs.Frame.{frame, after, channel2}
 use Rattle.event.specs.Outcome.{andThen, check, placed}
 use Rattle.event.specs.Reader.{readMore, readVlq, readData, readNumber, dataByte, oneData, twoData, oneByte, channelData, isChannel, lengthOk, valueOk, metaData, readMetaOf, readMeta, readFrame, kind2, metaOf, kindIn, readEvent}
+use Rattle.smf.specs.Division.{rateOk, inRange, divisionOf, divisionOk}
 use Rattle.smf.specs.Piece.{tracksFit}
-use Rattle.smf.specs.Reader.{ended, goOn, readEvents, readAll, readChunk, readTrack, readTracks, countOk, divisionOk, readHeader, readHead, findTrack, passOver, readBehind, readPiece, readFile}
+use Rattle.smf.specs.Reader.{ended, goOn, readEvents, readAll, readChunk, readTrack, readTracks, countOk, readHeader, readHead, findTrack, passOver, readBehind, readPiece, readFile}
 use Rattle.smf.specs.Slips.{AllRefused, slips}
 
 pub all-refused : AllRefused slips
-unfolding AllRefused readFile readPiece readTracks readTrack readChunk readHeader readNumber readData number horner countOk tracksFit divisionOk readHead findTrack passOver readBehind readAll readEvents readEvent goOn ended isEnd andThen check placed pick readVlq readMore readFrame channelData isChannel oneData twoData dataByte readMeta readMetaOf metaData oneByte after kindOf lengthOk valueOk kindIn kind2 metaOf frame
+unfolding AllRefused readFile readPiece readTracks readTrack readChunk readHeader readNumber readData number horner countOk tracksFit rateOk inRange divisionOf divisionOk readHead findTrack passOver readBehind readAll readEvents readEvent goOn ended isEnd andThen check placed pick readVlq readMore readFrame channelData isChannel oneData twoData dataByte readMeta readMetaOf metaData oneByte after kindOf lengthOk valueOk kindIn kind2 metaOf frame
 all-refused = (refl, (refl, (refl, tt)))
 
 -- "Unknown_meta_event 47 written, ending a track early": no piece holds one

@@ -5,6 +5,7 @@ use mathlib.Core.List.{List, [], _∷_, _++_}
 use Rattle.event.specs.Event.{Event, endTrack}
 use Rattle.event.specs.Number.{w1}
 use Rattle.event.specs.Spelling.{Spelling, lengthIn}
+use Rattle.smf.specs.Division.{pulses}
 use Rattle.smf.specs.Piece.{Piece}
 use Rattle.smf.specs.Chunk.{headerTag, Chunk}
 use Rattle.smf.specs.Spelling.{PieceSpelling}
@@ -21,7 +22,7 @@ plain = record { delta = w1; rest = lengthIn w1 } ∷ []
 
 -- two tracks of it
 abbrev pub chunkPiece : Piece
-chunkPiece = record { format = 1; division = record { pulses = 96 }; tracks = silent ∷ silent ∷ [] }
+chunkPiece = record { format = 1; division = pulses 96; tracks = silent ∷ silent ∷ [] }
 
 -- a chunk XFIH of one byte, and "a second MThd" of none
 abbrev ownChunk : Chunk

@@ -2,6 +2,7 @@
 use Prim.Native.Nat.{ℕ}
 use mathlib.Core.List.{List, [], _∷_}
 use Rattle.event.specs.Event.{text, noteOn, endTrack}
+use Rattle.smf.specs.Division.{pulses}
 use Rattle.smf.specs.Piece.{Piece}
 
 -- the 39 bytes that document 01 gives: manner 1
@@ -23,7 +24,7 @@ abbrev pub examplePiece : Piece
 examplePiece =
     record {
       format = 0;
-      division = record { pulses = 96 };
+      division = pulses 96;
       tracks =
           (record { time = 0; kind = text 3 (0x41 ∷ 0x22 ∷ []) }
           ∷ record { time = 0; kind = noteOn 0 60 64 }

@@ -7,7 +7,8 @@ use Rattle.event.specs.Bytes.{bigEndian}
 use Rattle.event.specs.Event.{Event}
 use Rattle.event.specs.Spelling.{Spelling}
 use Rattle.event.specs.Layout.{layEvent}
-use Rattle.smf.specs.Piece.{Division, Piece, LawfulPiece}
+use Rattle.smf.specs.Division.{Division, bits}
+use Rattle.smf.specs.Piece.{Piece, LawfulPiece}
 use Rattle.smf.specs.Chunk.{headerTag, trackTag, Chunk}
 use Rattle.smf.specs.Spelling.{TrackSpelling, PieceSpelling, PermittedPiece}
 
@@ -36,9 +37,9 @@ layTracks [] ss = []
 layTracks (t ∷ ts) [] = []
 layTracks (t ∷ ts) (s ∷ ss) = layChunks (s .before) ++ (layTrack t (s .events) ++ layTracks ts ss)
 
--- "division", a 16-bit number
+-- "division", its 16 bits
 unfoldable pub layDivision : Division → List ℕ
-layDivision d = bigEndian 2 (d .pulses)
+layDivision d = bigEndian 2 (bits d)
 
 -- "`MThd`", the number of its other bytes ("the header may be longer than 6"), "then three 16-bit numbers, high byte first: format ..,
 -- track count .., division", and "its extra bytes"; after it l

@@ -1,3 +1,4 @@
+pub mod Division
 pub mod Piece
 pub mod Chunk
 pub mod Spelling
@@ -14,5 +15,6 @@ pub mod Demand3
 pub mod Listing
 pub mod Slips
 pub mod ChunkCases
+pub mod DivisionCases
 pub mod Writing
 pub mod Code

@@ -7,10 +7,7 @@ use mathlib.Core.List.{List, [], _∷_}
 use lib.ListN.{length}
 use lib.Dec.{eqb}
 use Rattle.event.specs.Event.{Event, Lawful, isEnd}
-
--- pulses per quarter note
-pub record Division : Type 0 where
-  pub pulses : ℕ
+use Rattle.smf.specs.Division.{Division, LawfulDivision}
 
 -- "A piece is a format, a division and a list of tracks"
 pub record Piece : Type 0 where
@@ -42,10 +39,6 @@ LawfulEvents prev (e ∷ es) = Lawful prev e × Ends (isEnd (e .kind)) es (Lawfu
 unfoldable pub LawfulTracks : List (List Event) → Type 0
 LawfulTracks [] = Unit {0}
 LawfulTracks (t ∷ ts) = LawfulEvents 0 t × LawfulTracks ts
-
--- "division 1..32767"
-unfoldable pub LawfulDivision : Division → Type 0
-LawfulDivision d = (1 ≤ d .pulses) × (d .pulses ≤ 32767)
 
 -- "format 0..2, track count 1..65535 (1 for format 0), division"
 pub record LawfulPiece (p : Piece) : Type 0 where

@@ -12,9 +12,10 @@ use Rattle.event.specs.Reader.{readEvent}
 use Rattle.event.specs.Step.{eventStep, endOf, kindFrom}
 use Rattle.event.specs.declared.EventStep.{EventStep}
 use Rattle.event.specs.declared.EventStep.the-variants.{Read, Stop}
+use Rattle.smf.specs.Division.{pulses}
 use Rattle.smf.specs.Piece.{Piece}
 use Rattle.smf.specs.Reader.{readChunk, readHeader}
-use Rattle.smf.specs.Step.{headerStep, chunkStep}
+use Rattle.smf.specs.Step.{divisionFrom, headerStep, chunkStep}
 use Rattle.smf.specs.declared.HeaderStep.{HeaderStep}
 use Rattle.smf.specs.declared.HeaderStep.the-variants.{Fields, BadHeader}
 use Rattle.smf.specs.declared.ChunkStep.{ChunkStep}
@@ -51,10 +52,10 @@ unfoldable pub pieceFrom : List ℕ → HeaderStep → Piece
 pieceFrom f (Fields format count division next) =
     record {
       format = format;
-      division = record { pulses = division .0 };
+      division = divisionFrom division;
       tracks = tracksRead count f (chunkStep (length f) (readChunk next (drop next f)));
     }
-pieceFrom f (BadHeader number place) = record { format = 0; division = record { pulses = 0 }; tracks = [] }
+pieceFrom f (BadHeader number place) = record { format = 0; division = pulses 0; tracks = [] }
 
 -- "The piece read from an accepted file"
 unfoldable pub pieceRead : List ℕ → Piece

@@ -9,6 +9,7 @@ use Rattle.event.specs.Outcome.{Outcome, ok, refused, andThen, check, placed}
 use Rattle.event.specs.Event.{Event, isEnd}
 use Rattle.event.specs.Frame.{frame, after, noStatus}
 use Rattle.event.specs.Reader.{readNumber, readEvent}
+use Rattle.smf.specs.Division.{divisionOf, divisionOk}
 use Rattle.smf.specs.Piece.{Piece, Header, tracksFit}
 use Rattle.smf.specs.Chunk.{headerTag, trackTag, Chunk}
 
@@ -83,10 +84,6 @@ readTracks (suc n) at l =
 unfoldable pub countOk : ℕ → ℕ → Bool
 countOk format n = leb 1 n && tracksFit format n
 
--- "division 1..32767"
-unfoldable pub divisionOk : ℕ → Bool
-divisionOk n = leb 1 n && leb n 32767
-
 -- the header: 2 (under 14), 3 (tag), 3 (length under 6), "next, before the format, 2 at 0 for a header past the end", 3 (format, count,
 -- division); "its extra bytes passed over"
 unfoldable pub readHeader : List ℕ → Outcome Header
@@ -97,7 +94,7 @@ readHeader f =
     (andThen (readNumber 2 l2) (λ format l3. check (leb format 2) 3 8
     (andThen (readNumber 2 l3) (λ n l4. check (countOk format n) 3 10
     (andThen (readNumber 2 l4) (λ d l5. check (divisionOk d) 3 12
-    (ok (record { format = format; count = n; division = record { pulses = d } }) (drop (size - 6) l5)))))))))))))
+    (ok (record { format = format; count = n; division = divisionOf d }) (drop (size - 6) l5)))))))))))))
 
 -- ---- the whole file
 

@@ -5,7 +5,10 @@ use mathlib.Core.List.{List, [], _∷_}
 use lib.ListN.{length}
 use Rattle.event.specs.Event.{Event}
 use Rattle.event.specs.Outcome.{Outcome, ok, refused}
+use Rattle.smf.specs.Division.{Division, pulses, frames}
 use Rattle.smf.specs.Piece.{Header}
+use Rattle.smf.specs.declared.Division
+use Rattle.smf.specs.declared.Division.the-variants.{Pulses, Frames}
 use Rattle.smf.specs.declared.HeaderStep.{HeaderStep}
 use Rattle.smf.specs.declared.HeaderStep.the-variants.{Fields, BadHeader}
 use Rattle.smf.specs.declared.ChunkStep.{ChunkStep}
@@ -17,9 +20,18 @@ use Rattle.smf.specs.declared.TrackStep.the-variants.{Track, BadTrack}
 use Rattle.smf.specs.declared.TracksStep.{TracksStep}
 use Rattle.smf.specs.declared.TracksStep.the-variants.{Next, BadTracks}
 
+-- a division, and back
+unfoldable pub divisionStep : Division → Rattle.smf.specs.declared.Division.Division
+divisionStep (pulses n) = Pulses n
+divisionStep (frames r t) = Frames r t
+
+unfoldable pub divisionFrom : Rattle.smf.specs.declared.Division.Division → Division
+divisionFrom (Pulses n) = pulses n
+divisionFrom (Frames r t) = frames r t
+
 -- a header: its fields, and the place after it
 unfoldable pub headerStep : ℕ → Outcome Header → HeaderStep
-headerStep n (ok h r) = Fields (h .format) (h .count) (record { 0 = h .division .pulses }) (n - length r)
+headerStep n (ok h r) = Fields (h .format) (h .count) (divisionStep (h .division)) (n - length r)
 headerStep n (refused k p) = BadHeader k p
 
 -- a track's chunk: the place of its first event, and the place after it

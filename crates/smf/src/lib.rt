@@ -2,7 +2,7 @@
 ghost use mathlib.Core.Path.{_≡_};
 ghost use Rattle.smf.specs.Answer.{success, refusal, roomNeeded};
 
-pub mod header; // header.rt: the header
+pub mod header; // header.rt: the header, and a division's 16 bits
 pub mod track; // track.rt: a track's chunk and its events
 pub mod check; // check.rt: checking a file
 pub mod list; // list.rt: listing the tracks
@@ -51,8 +51,11 @@ impl Answer {
     }
 }
 
-// Pulses per quarter note.
-pub struct Division(pub u32);
+// Pulses per quarter note, or frames a second and ticks a frame.
+pub enum Division {
+    Pulses(u32),
+    Frames { rate: u32, ticks: u32 },
+}
 
 // What reading the header answers: its fields and the place after it, or a refusal.
 pub enum HeaderStep {

@@ -21,7 +21,7 @@ use Rattle.smf.specs.Manner.{spellTracks, spelling, fileOf}
 use Rattle.smf.specs.Reader.{readAll, readHeader, fileLimit, readFile}
 use Rattle.smf.specs.Answer.{success, refusal, roomNeeded, verdict}
 use Rattle.smf.specs.PieceRead.{pieceRead}
-use Rattle.smf.specs.Step.{headerStep}
+use Rattle.smf.specs.Step.{divisionFrom, headerStep}
 use Rattle.smf.specs.declared.Answer.{Answer}
 use Rattle.smf.specs.declared.Division.{Division}
 use Rattle.smf.specs.declared.HeaderStep.the-variants.{Fields}
@@ -56,7 +56,7 @@ tracks-small m s left at bs h =
 
 -- the bytes of the file, as the code writes them
 pub file-bytes : (m : Manner) (s : List ℕ) (a b : ℕ) (d : Division) (n : ℕ) → Bytes s → headerStep (length s) (readHeader s) ≡ Fields a b d n → Accepted s b n
-    → fileOf m (pieceRead s) ≡ layHeader a b (record { pulses = d .0 }) [] (TracksLeft m s b n)
+    → fileOf m (pieceRead s) ≡ layHeader a b (divisionFrom d) [] (TracksLeft m s b n)
 unfolding fileOf layPiece spelling valueOr layChunks
 file-bytes m s a b d n bs e there =
     let p = there .piece in

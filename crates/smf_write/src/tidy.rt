@@ -147,12 +147,12 @@ fn put_file(out: &mut [u8], file: &[u8], short: bool) -> usize
             division,
             next,
         } => {
-            let pulses = division.0;
+            let bits = smf::header::division_bits(division);
             let a = put_four(out, 0, HEADER_TAG);
             let b = put_four(out, a, 6);
             let c = put_two(out, b, format);
             let d = put_two(out, c, count);
-            let e = put_two(out, d, pulses);
+            let e = put_two(out, d, bits);
             put_tracks(out, e, file, count, next, short)
         }
     }

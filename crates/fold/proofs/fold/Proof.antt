@@ -1,7 +1,7 @@
 use Rattle.event.proofs.BytesLaws.{bytes-of}
 use Rattle.smf.proofs.AcceptedLaws.{accepted-file, file-readable, header-there}
 use Rattle.fold_piece.specs.FoldAnswer.{rowsLent}
-use Rattle.fold.proofs.TopLaws.{check-refused, short-enough, tracks-readable, format-two, many-tracks, few-rows, prefix-found, promise-kept}
+use Rattle.fold.proofs.TopLaws.{check-refused, short-enough, lawful-division, small-bits, tracks-readable, format-two, many-tracks, few-rows, prefix-found, promise-kept}
 use native.Mathlib.Omega.{arith}
 use mathlib.Core.Path.{sym, _∙_}
 use borrow.Author.Needs.{needs}
@@ -84,14 +84,22 @@ returns-5 c = let a = c .before .before .before .before .before .before .before 
     let bytes = bytes-of (a .file .now) (λ k. omega (arith, c .before .before .before .before .before .before .before .before .before .before .before .before .before .before .before .before .before .before .before .shared-slice-known .given k)) in
     prefix-found (a .file .now) bytes (c .before .before .before .before .before .before .before .before .before .before .before .before .before .before .check .ensures .0) (c .before .before .before .before .before .before .before .before .before .before .before .before .before .if1 .left) (c .before .before .before .before .before .before .before .before .before .before .before .before .read-header .ensures) (c .before .before .before .before .before .before .before .before .before .before .format .given .1) (a .out .now) (a .places .now) (a .times .now) (a .statuses .now) _ (c .before .before .before .before .before .before .before .before .if2 .left) (c .before .before .before .before .before .before .before .if3 .left) (omega (arith, c .before .before .if4 .left, c .before .before .before .rows-lent .ensures)) (c .before .look .ensures) (c .if5 .taken)
 
+division-bits-requires : tie.Need-division-bits-requires
+division-bits-requires c κs = let a = c .before .before .before .before .before .before .before .before .before .before .before .before .before .before .before .before .before .before .before .before .args in
+    let bytes = bytes-of (a .file .now) (λ k. omega (arith, c .before .before .before .before .before .before .before .before .before .before .before .before .before .before .before .before .before .before .before .shared-slice-known .given k)) in
+    lawful-division (a .file .now) bytes (c .before .before .before .before .before .before .before .before .before .before .before .before .before .before .check .ensures .0) (c .before .before .before .before .before .before .before .before .before .before .before .before .before .if1 .left) (c .before .before .before .before .before .before .before .before .before .before .before .before .read-header .ensures) (c .before .before .before .before .before .before .before .before .before .before .format .given .1)
+
 put-measured-requires : tie.Need-put-measured-requires
-put-measured-requires c κs = let a = c .before .before .before .before .before .before .before .before .before .before .before .before .before .before .before .before .before .before .before .before .before .before .before .before .args in
-    let bytes = bytes-of (a .file .now) (λ k. omega (arith, c .before .before .before .before .before .before .before .before .before .before .before .before .before .before .before .before .before .before .before .before .before .before .before .shared-slice-known .given k)) in
-    let lent = c .before .before .before .before .before .before .before .rows-lent .ensures in let enough = c .before .before .before .before .before .before .if4 .left in (
-      short-enough (a .file .now) bytes (c .before .before .before .before .before .before .before .before .before .before .before .before .before .before .before .before .before .before .check .ensures .0) (c .before .before .before .before .before .before .before .before .before .before .before .before .before .before .before .before .before .if1 .left) (c .before .before .before .before .before .before .before .before .before .before .before .before .before .before .before .before .read-header .ensures) (c .before .before .before .before .before .before .before .before .before .before .before .before .before .before .format .given .1),
+put-measured-requires c κs = let a = c .before .before .before .before .before .before .before .before .before .before .before .before .before .before .before .before .before .before .before .before .before .before .before .before .before .args in
+    let bytes = bytes-of (a .file .now) (λ k. omega (arith, c .before .before .before .before .before .before .before .before .before .before .before .before .before .before .before .before .before .before .before .before .before .before .before .before .shared-slice-known .given k)) in
+    let lent = c .before .before .before .before .before .before .before .before .rows-lent .ensures in let enough = c .before .before .before .before .before .before .before .if4 .left in (
+      small-bits (a .file .now) bytes (c .before .before .before .before .before .before .before .before .before .before .before .before .before .before .before .before .before .before .before .check .ensures .0) (c .before .before .before .before .before .before .before .before .before .before .before .before .before .before .before .before .before .before .if1 .left) (c .before .before .before .before .before .before .before .before .before .before .before .before .before .before .before .before .before .read-header .ensures) (c .before .before .before .before .before .before .before .before .before .before .before .before .before .before .before .format .given .1) _ (c .before .before .before .before .division-bits .ensures),
       (
-        tracks-readable (a .file .now) bytes (c .before .before .before .before .before .before .before .before .before .before .before .before .before .before .before .before .before .before .check .ensures .0) (c .before .before .before .before .before .before .before .before .before .before .before .before .before .before .before .before .before .if1 .left) (c .before .before .before .before .before .before .before .before .before .before .before .before .before .before .before .before .read-header .ensures) (c .before .before .before .before .before .before .before .before .before .before .before .before .before .before .format .given .1),
-        (omega (arith, lent, enough), omega (arith, lent, enough), omega (arith, lent, enough)),
+        short-enough (a .file .now) bytes (c .before .before .before .before .before .before .before .before .before .before .before .before .before .before .before .before .before .before .before .check .ensures .0) (c .before .before .before .before .before .before .before .before .before .before .before .before .before .before .before .before .before .before .if1 .left) (c .before .before .before .before .before .before .before .before .before .before .before .before .before .before .before .before .before .read-header .ensures) (c .before .before .before .before .before .before .before .before .before .before .before .before .before .before .before .format .given .1),
+        (
+          tracks-readable (a .file .now) bytes (c .before .before .before .before .before .before .before .before .before .before .before .before .before .before .before .before .before .before .before .check .ensures .0) (c .before .before .before .before .before .before .before .before .before .before .before .before .before .before .before .before .before .before .if1 .left) (c .before .before .before .before .before .before .before .before .before .before .before .before .before .before .before .before .before .read-header .ensures) (c .before .before .before .before .before .before .before .before .before .before .before .before .before .before .before .format .given .1),
+          (omega (arith, lent, enough), omega (arith, lent, enough), omega (arith, lent, enough)),
+        ),
       ),
     )
 
@@ -113,9 +121,9 @@ same-length-10 : tie.Need-same-length-10
 same-length-10 c = search needs
 
 returns-7 : tie.Need-returns-7
-returns-7 c = let a = c .before .before .before .before .before .before .before .before .before .before .before .before .before .before .before .before .before .before .before .before .before .before .before .before .before .before .before .before .before .before .before .before .before .args in let m = c .before .before .before .before .before .before .before .before .put-measured .ensures in
-    let bytes = bytes-of (a .file .now) (λ k. omega (arith, c .before .before .before .before .before .before .before .before .before .before .before .before .before .before .before .before .before .before .before .before .before .before .before .before .before .before .before .before .before .before .before .before .shared-slice-known .given k)) in
-    promise-kept (a .file .now) bytes (c .before .before .before .before .before .before .before .before .before .before .before .before .before .before .before .before .before .before .before .before .before .before .before .before .before .before .before .check .ensures .0) (c .before .before .before .before .before .before .before .before .before .before .before .before .before .before .before .before .before .before .before .before .before .before .before .before .before .before .if1 .left) (c .before .before .before .before .before .before .before .before .before .before .before .before .before .before .before .before .before .before .before .before .before .before .before .before .before .read-header .ensures) (c .before .before .before .before .before .before .before .before .before .before .before .before .before .before .before .before .before .before .before .before .before .before .before .format .given .1) (a .out .now) (a .places .now) (a .times .now) (a .statuses .now) (c .before .before .before .before .before .before .before .before .put-measured .result) (c .before .before .before .before .before .before .before .before .before .before .before .before .before .before .before .before .before .before .before .before .before .if2 .left) (c .before .before .before .before .before .before .before .before .before .before .before .before .before .before .before .before .before .before .before .before .if3 .left) (omega (arith, c .before .before .before .before .before .before .before .before .before .before .before .before .before .before .before .if4 .left, c .before .before .before .before .before .before .before .before .before .before .before .before .before .before .before .before .rows-lent .ensures)) (c .before .before .before .before .before .before .before .before .before .before .before .before .before .before .look .result) (c .before .before .before .before .before .before .before .before .before .before .before .before .before .before .look .ensures) (c .before .before .before .before .before .before .before .before .before .before .before .before .before .if5 .left) _ _ _ _ (m .0) (m .1 .0) (m .1 .1 .0) (m .1 .1 .1 .0) (m .1 .1 .1 .1)
+returns-7 c = let a = c .before .before .before .before .before .before .before .before .before .before .before .before .before .before .before .before .before .before .before .before .before .before .before .before .before .before .before .before .before .before .before .before .before .before .args in let m = c .before .before .before .before .before .before .before .before .put-measured .ensures in
+    let bytes = bytes-of (a .file .now) (λ k. omega (arith, c .before .before .before .before .before .before .before .before .before .before .before .before .before .before .before .before .before .before .before .before .before .before .before .before .before .before .before .before .before .before .before .before .before .shared-slice-known .given k)) in
+    promise-kept (a .file .now) bytes (c .before .before .before .before .before .before .before .before .before .before .before .before .before .before .before .before .before .before .before .before .before .before .before .before .before .before .before .before .check .ensures .0) (c .before .before .before .before .before .before .before .before .before .before .before .before .before .before .before .before .before .before .before .before .before .before .before .before .before .before .before .if1 .left) (c .before .before .before .before .before .before .before .before .before .before .before .before .before .before .before .before .before .before .before .before .before .before .before .before .before .before .read-header .ensures) (c .before .before .before .before .before .before .before .before .before .before .before .before .before .before .before .before .before .before .before .before .before .before .before .before .format .given .1) (a .out .now) (a .places .now) (a .times .now) (a .statuses .now) (c .before .before .before .before .before .before .before .before .put-measured .result) (c .before .before .before .before .before .before .before .before .before .before .before .before .before .before .before .before .before .before .before .before .before .before .if2 .left) (c .before .before .before .before .before .before .before .before .before .before .before .before .before .before .before .before .before .before .before .before .before .if3 .left) (omega (arith, c .before .before .before .before .before .before .before .before .before .before .before .before .before .before .before .before .if4 .left, c .before .before .before .before .before .before .before .before .before .before .before .before .before .before .before .before .before .rows-lent .ensures)) (c .before .before .before .before .before .before .before .before .before .before .before .before .before .before .before .look .result) (c .before .before .before .before .before .before .before .before .before .before .before .before .before .before .before .look .ensures) (c .before .before .before .before .before .before .before .before .before .before .before .before .before .before .if5 .left) _ (c .before .before .before .before .before .before .before .before .before .before .before .before .before .division-bits .ensures) _ _ _ _ (m .0) (m .1 .0) (m .1 .1 .0) (m .1 .1 .1 .0) (m .1 .1 .1 .1)
 
 pub fold-spec : {M : Type 1} → statement M
 fold-spec =
@@ -143,6 +151,7 @@ fold-spec =
     same-length-5
     same-length-6
     returns-5
+    division-bits-requires
     put-measured-requires
     returns-6
     same-length-7

@@ -9,6 +9,7 @@ use Rattle.event.specs.Outcome.{Readable, valueOr}
 use Rattle.event.specs.Step.{endOf}
 use Rattle.event.specs.declared.EventStep.{EventStep}
 use Rattle.event.specs.declared.EventStep.the-variants.{Read, Stop}
+use Rattle.smf.specs.Division.{divisionOf}
 use Rattle.smf.specs.Layout.{layHeader}
 use Rattle.smf.specs.Reader.{readTracks}
 use Rattle.smf.specs.Walk.{Placed}
@@ -24,9 +25,9 @@ unfoldable pub rowOf : ℕ → ℕ → ℕ → EventStep → Row
 rowOf at time status (Read t k next st) = record { place = at; time = t .0; status = pick (endOf k) 1 status }
 rowOf at time status (Stop number) = record { place = at; time = time; status = 1 }
 
--- a file of format 0 with the one track
+-- a file of format 0 with the one track, its division by its 16 bits
 abbrev pub fileIn : ℕ → List Event → List ℕ
-fileIn pulses es = layHeader 0 1 (record { pulses = pulses }) [] (trackIn short es)
+fileIn n es = layHeader 0 1 (divisionOf n) [] (trackIn short es)
 
 -- ---- what the functions of the merge say of so many tracks of the file f from the place first on
 

@@ -61,7 +61,7 @@ returns-2 c = let a = c .before .before .before .before .before .before .before 
     (c .room-needed .ensures ∙ w .0, (unmeasured (a .out .now) (m .0) ∙ w .1, m .1))
 
 put-file-requires-2 : tie.Need-put-file-requires-2
-put-file-requires-2 c κs = let p = c .before .before .before .before .before .before .before .before .before .before .before .before .before .before .before .before .before .before .before .before .before .before .before .before .pre in let k = c .before .before .before .before .before .before .before .before .before .before .before .before .before .before .put-file .kept in (p .0, (p .1 .0, (omega (arith, k .1 .0, p .1 .1 .0), omega (arith, k .1 .1 .0, p .1 .1 .1), omega (arith, k .1 .1 .1 .0, p .1 .1 .2))))
+put-file-requires-2 c κs = let p = c .before .before .before .before .before .before .before .before .before .before .before .before .before .before .before .before .before .before .before .before .before .before .before .before .pre in let k = c .before .before .before .before .before .before .before .before .before .before .before .before .before .before .put-file .kept in (p .0, (p .1 .0, (p .1 .1 .0, (omega (arith, k .1 .0, p .1 .1 .1 .0), omega (arith, k .1 .1 .0, p .1 .1 .1 .1), omega (arith, k .1 .1 .1 .0, p .1 .1 .1 .2)))))
 
 success-requires : tie.Need-success-requires
 success-requires c κs = search needs
@@ -79,7 +79,7 @@ same-length-12 : tie.Need-same-length-12
 same-length-12 c = search needs
 
 returns-3 : tie.Need-returns-3
-returns-3 c = let a = c .before .before .before .before .before .before .before .before .before .before .before .before .before .before .before .before .before .before .before .before .before .before .before .before .before .before .before .before .before .before .before .before .before .before .args in let p = c .before .before .before .before .before .before .before .before .before .before .before .before .before .before .before .before .before .before .before .before .before .before .before .before .before .before .before .before .before .before .before .before .before .before .pre .1 .1 in let m = c .before .before .before .before .before .before .before .before .before .before .before .before .before .before .before .before .before .before .before .before .before .before .before .before .put-file .ensures in let k = c .before .before .before .before .before .before .before .before .before .before .before .before .before .before .before .before .before .before .before .before .before .before .before .before .put-file .kept in let v = c .before .before .before .before .before .before .before .before .before .put-file2 .ensures in
+returns-3 c = let a = c .before .before .before .before .before .before .before .before .before .before .before .before .before .before .before .before .before .before .before .before .before .before .before .before .before .before .before .before .before .before .before .before .before .before .args in let p = c .before .before .before .before .before .before .before .before .before .before .before .before .before .before .before .before .before .before .before .before .before .before .before .before .before .before .before .before .before .before .before .before .before .before .pre .1 .1 .1 in let m = c .before .before .before .before .before .before .before .before .before .before .before .before .before .before .before .before .before .before .before .before .before .before .before .before .put-file .ensures in let k = c .before .before .before .before .before .before .before .before .before .before .before .before .before .before .before .before .before .before .before .before .before .before .before .before .put-file .kept in let v = c .before .before .before .before .before .before .before .before .before .put-file2 .ensures in
     let kept = ap length (unmeasured (a .out .now) (m .0)) in
     let w = write-fine _ (a .out .now) _ (measured (m .0)) (c .before .before .before .before .before .before .before .before .before .before .before .before .before .before .before .if1 .left) (omega (arith, kept, c .before .before .before .before .before .before .before .before .before .before .before .before .before .before .if2 .left)) in
     (c .success .ensures ∙ w .0, (after-measure (m .0) (v .0) .contents ∙ w .1, (twice (endsShown placeShown (placedFrom (a .file .now) (a .count) (a .first))) (a .places .now) (c .before .before .before .before .before .before .before .before .before .before .before .before .before .before .before .before .before .before .before .before .before .before .before .before .put-file .last .1 .0) _ (a .count) (m .1 .0) (k .1 .0) (p .0) (v .1 .0), (twice (endsShown timeShown (placedFrom (a .file .now) (a .count) (a .first))) (a .times .now) (c .before .before .before .before .before .before .before .before .before .before .before .before .before .before .before .before .before .before .before .before .before .before .before .before .put-file .last .1 .1 .0) _ (a .count) (m .1 .1 .0) (k .1 .1 .0) (p .1) (v .1 .1 .0), twice (endsShown statusShown (placedFrom (a .file .now) (a .count) (a .first))) (a .statuses .now) (c .before .before .before .before .before .before .before .before .before .before .before .before .before .before .before .before .before .before .before .before .before .before .before .before .put-file .last .1 .1 .1 .0) _ (a .count) (m .1 .1 .1) (k .1 .1 .1 .0) (p .2) (v .1 .1 .1)))))

@@ -4,6 +4,7 @@ use Rattle.event.proofs.BytesLaws.{length-bigEndian}
 use Rattle.event_write.proofs.WriteLaws.{then}
 use Rattle.smf.specs.Chunk.{headerTag}
 use Rattle.smf.specs.Layout.{layHeader, layDivision}
+use Rattle.smf.proofs.DivisionLaws.{bits-back, division-small}
 use native.Mathlib.Omega.{arith}
 use borrow.Author.Needs.{needs}
 use Rattle.midicsv_read.proofs.order.put_header.Statement.{statement}
@@ -31,7 +32,9 @@ same-length c = search needs
 
 returns : tie.Need-returns
 unfolding layHeader layDivision
-returns c = rw (append-nil (bigEndian 2 (c .before .before .before .before .before .before .before .before .before .before .before .before .before .before .before .before .before .before .before .before .before .args .pulses)))
+returns c = let n = c .before .before .before .before .before .before .before .before .before .before .before .before .before .before .before .before .before .before .before .before .before .args .bits in
+    let h = c .before .before .before .before .before .before .before .before .before .before .before .before .before .before .before .before .before .before .before .before .before .pre .1 in
+    rw (bits-back n (division-small n h), append-nil (bigEndian 2 n))
     (then (c .before .before .before .before .before .before .before .before .before .before .before .before .before .before .before .before .before .before .put-four .ensures) (then (c .before .before .before .before .before .before .before .before .before .before .before .before .before .before .put-four2 .ensures) (then (c .before .before .before .before .before .before .before .before .before .before .put-two .ensures) (then (c .before .before .before .before .before .before .put-two2 .ensures) (c .before .before .put-two3 .ensures)))))
 
 pub put-header-spec : {M : Type 1} → statement M

@@ -1,7 +1,7 @@
 use mathlib.Core.List.{[]}
 use borrow.Author.Tests.{not-true, not-false}
+use Rattle.smf.specs.Division.{divisionOf}
 use Rattle.smf.proofs.FileLaws.{header-size}
-use Rattle.midicsv_read.specs.Progress.{divisionOf}
 use Rattle.midicsv_read.proofs.TakeLaws.{header-phase, header-unmarked, header-moved}
 use native.Mathlib.Omega.{arith}
 use mathlib.Core.Path.{sym, _∙_}
@@ -28,7 +28,7 @@ same-length c = search needs
 returns-3 : tie.Need-returns-3
 returns-3 c = let a = c .before .before .before .before .before .before .before .before .before .args in
     let w = c .before .before .put-header .ensures in
-    (λ m. header-moved m (a .st) _ (a .row) _ _ (c .before .before .before .before .before .before .if1 .left) (sym (c .before .before .before .before .before .is-marked .ensures) ∙ not-false _ (c .before .before .before .before .if2 .left)) (c .before .before .before .before .before .before .before .before .before .pre .1) w, omega (arith, w .place, header-size (a .row .a) (a .row .b) (divisionOf (a .row .c)) [] []))
+    (λ m. header-moved m (a .st) _ (a .row) _ _ (c .before .before .before .before .before .before .if1 .left) (sym (c .before .before .before .before .before .is-marked .ensures) ∙ not-false _ (c .before .before .before .before .if2 .left)) (c .before .before .before .before .before .before .before .before .before .pre .1 .0) w, omega (arith, w .place, header-size (a .row .a) (a .row .b) (divisionOf (a .row .c)) [] []))
 
 pub take-header-spec : {M : Type 1} → statement M
 take-header-spec =

@@ -2,7 +2,7 @@ use Prim.Native.Nat.{_+_}
 use lib.ListN.{length}
 use Rattle.event.proofs.BytesLaws.{bytes-of}
 use Rattle.event_write.specs.Head.{mannerOf}
-use Rattle.midicsv_read.proofs.TakeLineLaws.{near-wider, row-header, row-start, row-end, header-count}
+use Rattle.midicsv_read.proofs.TakeLineLaws.{near-wider, row-header, row-start, row-end, header-numbers}
 use native.Mathlib.Omega.{arith}
 use borrow.Author.Needs.{needs}
 use Rattle.midicsv_read.proofs.order.take_row.Statement.{statement}
@@ -12,7 +12,7 @@ take-header-requires : tie.Need-take-header-requires
 take-header-requires c κs = let a = c .before .before .before .before .args in
     let l = a .line .now in
     let bytes = bytes-of l (λ i. omega (arith, c .before .before .shared-slice-known .given i)) in
-    (c .before .before .before .before .pre .0, header-count l (a .row) bytes (c .before .before .before .before .pre .1) (c .before .match .keys1))
+    (c .before .before .before .before .pre .0, header-numbers l (a .row) bytes (c .before .before .before .before .pre .1) (c .before .match .keys1))
 
 take-start-requires : tie.Need-take-start-requires
 take-start-requires c κs = search needs

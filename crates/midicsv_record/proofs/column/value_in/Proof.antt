@@ -32,6 +32,12 @@ free-type-requires c κs = search needs
 enum-told-4 : tie.Need-enum-told-4
 enum-told-4 c = search needs
 
+division-of-requires : tie.Need-division-of-requires
+division-of-requires c κs = search needs
+
+enum-told-5 : tie.Need-enum-told-5
+enum-told-5 c = search needs
+
 returns : tie.Need-returns
 unfolding valueAs columnAs readFirst
 returns c = rw (c .before .before .column .given .1) (c .number-in .ensures (c .before .before .before .before .before .args .line .now))
@@ -50,7 +56,11 @@ returns-4 c = rw (c .before .enum-told3 .given .1) (c .free-type .ensures (c .be
 
 returns-5 : tie.Need-returns-5
 unfolding valueAs columnAs readFirst
-returns-5 c = rw (c .enum-told4 .given .1) refl
+returns-5 c = rw (c .before .enum-told4 .given .1) (c .division-of .ensures (c .before .before .before .before .args .line .now))
+
+returns-6 : tie.Need-returns-6
+unfolding valueAs columnAs readFirst
+returns-6 c = rw (c .enum-told5 .given .1) refl
 
 pub value-in-spec : {M : Type 1} → statement M
 value-in-spec =
@@ -65,8 +75,11 @@ value-in-spec =
     enum-told-3
     free-type-requires
     enum-told-4
+    division-of-requires
+    enum-told-5
     returns
     returns-2
     returns-3
     returns-4
-    returns-5)
+    returns-5
+    returns-6)

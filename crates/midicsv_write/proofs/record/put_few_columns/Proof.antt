@@ -3,9 +3,9 @@ use Rattle.event_write.proofs.WriteLaws.{then, nothing}
 use Rattle.event.specs.Step.{kindFrom}
 use Rattle.midicsv.specs.Field.{num}
 use Rattle.midicsv.specs.Show.{further}
-use Rattle.midicsv.specs.Table.{mode, eventShape}
+use Rattle.midicsv.specs.Table.{key, mode, eventShape}
 use Rattle.midicsv.specs.Record.{columnField, tailFields, fieldsOf, nameOf, valuesOf}
-use Rattle.midicsv_write.proofs.LineLaws.{last-field, key-length, key-fields, no-columns}
+use Rattle.midicsv_write.proofs.LineLaws.{last-field, field-length, key-fields, no-columns}
 use native.Mathlib.Omega.{arith}
 use borrow.Author.Needs.{needs}
 use Rattle.midicsv_write.proofs.record.put_few_columns.Statement.{statement}
@@ -84,7 +84,7 @@ put-key-field-requires : tie.Need-put-key-field-requires
 put-key-field-requires c κs = search needs
 
 put-mode-field-requires : tie.Need-put-mode-field-requires
-put-mode-field-requires c κs = omega (arith, c .before .before .before .put-key-field .ensures .place, key-length (formOf (c .before .before .before .before .before .before .before .before .before .args .sheet)) (c .before .before .before .before .before .before .kind8 .given .0 .0), c .before .before .before .before .before .before .before .before .before .pre .0)
+put-mode-field-requires c κs = omega (arith, c .before .before .before .put-key-field .ensures .place, field-length (formOf (c .before .before .before .before .before .before .before .before .before .args .sheet)) key (c .before .before .before .before .before .before .kind8 .given .0 .0), c .before .before .before .before .before .before .before .before .before .pre .0)
 
 enum-known-kind-9 : tie.Need-enum-known-kind-9
 enum-known-kind-9 c = search needs

@@ -1,10 +1,5 @@
 use Rattle.event.specs.Choice.{pick}
-use Rattle.event_write.proofs.WriteLaws.{then}
-use Rattle.midicsv.specs.Code.Form.{formOf}
-use Rattle.midicsv.specs.Show.{show}
 use Rattle.midicsv.specs.Record.{columnField}
-use Rattle.midicsv.proofs.FieldLaws.{gap-length}
-use native.Mathlib.Omega.{arith}
 use borrow.Author.Tests.{lt-ltb, le-ltb}
 use borrow.Author.Needs.{needs}
 use Rattle.midicsv_write.proofs.record.put_key_field.Statement.{statement}
@@ -17,38 +12,21 @@ same-length : tie.Need-same-length
 same-length c = search needs
 
 returns : tie.Need-returns
-unfolding columnField show pick
+unfolding columnField pick
 returns c = rw (lt-ltb _ _ (c .before .before .before .before .if1 .taken)) (c .before .before .put-number-field .ensures)
 
-put-comma-requires : tie.Need-put-comma-requires
-put-comma-requires c κs = search needs
+sub-put-minus-field : tie.Need-sub-put-minus-field
+sub-put-minus-field c = search needs
 
-put-byte-requires : tie.Need-put-byte-requires
-put-byte-requires c κs = omega (arith, c .before .before .before .put-comma .ensures .place, gap-length (formOf (c .before .before .before .before .before .before .before .args .sheet)), c .before .before .before .before .before .before .before .pre)
-
-sub-put-decimal : tie.Need-sub-put-decimal
-sub-put-decimal c = search needs
-
-put-decimal-requires : tie.Need-put-decimal-requires
-put-decimal-requires c κs = omega (arith, c .before .before .before .put-byte .ensures .place, c .before .before .before .before .before .before .before .put-comma .ensures .place, gap-length (formOf (c .before .before .before .before .before .before .before .before .before .before .before .args .sheet)), c .before .before .before .before .before .before .before .before .before .before .before .pre)
+put-minus-field-requires : tie.Need-put-minus-field-requires
+put-minus-field-requires c κs = search needs
 
 same-length-2 : tie.Need-same-length-2
 same-length-2 c = search needs
 
 returns-2 : tie.Need-returns-2
-unfolding columnField show pick
-returns-2 c = rw (le-ltb _ _ (c .before .before .before .before .before .before .before .before .before .before .before .before .if1 .left)) (then (c .before .before .before .before .before .before .before .before .before .before .put-comma .ensures) (then (c .before .before .before .before .before .before .put-byte .ensures) (c .before .before .put-decimal .ensures)))
+unfolding columnField pick
+returns-2 c = rw (le-ltb _ _ (c .before .before .before .before .if1 .left)) (c .before .before .put-minus-field .ensures)
 
 pub put-key-field-spec : {M : Type 1} → statement M
-put-key-field-spec =
-    tie.close
-    (tie.spec
-    put-number-field-requires
-    same-length
-    returns
-    put-comma-requires
-    put-byte-requires
-    sub-put-decimal
-    put-decimal-requires
-    same-length-2
-    returns-2)
+put-key-field-spec = tie.close (tie.spec put-number-field-requires same-length returns sub-put-minus-field put-minus-field-requires same-length-2 returns-2)

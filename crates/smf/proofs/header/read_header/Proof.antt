@@ -1,6 +1,9 @@
-use Rattle.smf.proofs.HeaderLaws.{head-short, head-tag, head-size, head-past, head-format, head-count, head-division, head-fine}
+use Prim.Native.Nat.{_+_}
+use Rattle.event.proofs.BytesLaws.{bytes-of}
+use Rattle.smf.specs.declared.HeaderStep.the-variants.{Fields}
+use Rattle.smf.proofs.HeaderLaws.{head-short, head-tag, head-size, head-past, head-format, head-count, head-division, head-fine, two-bytes}
 use native.Mathlib.Omega.{arith}
-use mathlib.Core.Path.{sym, _∙_}
+use mathlib.Core.Path.{sym, ap, _∙_}
 use borrow.Author.Needs.{needs}
 use Rattle.smf.proofs.header.read_header.Statement.{statement}
 use Rattle.smf.proofs.header.read_header.Tie as tie
@@ -62,11 +65,16 @@ two-byte-number-requires-3 c κs = search needs
 division-ok-requires : tie.Need-division-ok-requires
 division-ok-requires c κs = search needs
 
+division-of-requires : tie.Need-division-of-requires
+division-of-requires c κs = let s = c .before .before .before .before .before .before .before .before .before .before .before .before .before .before .before .args .file .now in
+    two-bytes s 12 (c .before .before .two-byte-number3 .result) (bytes-of s (λ i. omega (arith, c .before .before .before .before .before .before .before .before .before .before .before .before .before .before .shared-slice-known .given i))) (omega arith) (c .before .before .two-byte-number3 .ensures)
+
 add-t14 : tie.Need-add-t14
 add-t14 c = search needs
 
 returns-6 : tie.Need-returns-6
-returns-6 c = head-fine (c .before .before .before .before .before .before .before .before .before .before .before .before .before .before .before .args .file .now) (c .before .before .before .before .before .before .before .before .before .before .before .before .before .if1 .left) (c .before .before .before .before .before .before .before .before .before .before .before .before .four-byte-number .result) (c .before .before .before .before .before .before .before .before .before .before .before .before .four-byte-number .ensures) (c .before .before .before .before .before .before .before .before .before .before .before .if2 .left) (c .before .before .before .before .before .before .before .before .before .before .four-byte-number2 .result) (c .before .before .before .before .before .before .before .before .before .before .four-byte-number2 .ensures) (c .before .before .before .before .before .before .before .before .before .if3 .left) (omega arith) (c .before .before .before .before .before .before .before .two-byte-number .result) (c .before .before .before .before .before .before .before .two-byte-number .ensures) (c .before .before .before .before .before .before .if5 .left) (c .before .before .before .before .before .two-byte-number2 .result) (c .before .before .before .before .before .two-byte-number2 .ensures) (sym (c .before .before .before .before .count-ok .ensures) ∙ c .before .before .before .if6 .taken) (c .before .before .two-byte-number3 .result) (c .before .before .two-byte-number3 .ensures) (sym (c .before .division-ok .ensures) ∙ c .if7 .taken)
+returns-6 c = let s = c .before .before .before .before .before .before .before .before .before .before .before .before .before .before .before .before .args .file .now in
+    ap (λ d. Fields (c .before .before .before .before .before .before .before .before .two-byte-number .result) (c .before .before .before .before .before .before .two-byte-number2 .result) d (8 + c .before .before .before .before .before .before .before .before .before .before .before .four-byte-number2 .result)) (c .division-of .ensures) ∙ head-fine s (c .before .before .before .before .before .before .before .before .before .before .before .before .before .before .if1 .left) (c .before .before .before .before .before .before .before .before .before .before .before .before .before .four-byte-number .result) (c .before .before .before .before .before .before .before .before .before .before .before .before .before .four-byte-number .ensures) (c .before .before .before .before .before .before .before .before .before .before .before .before .if2 .left) (c .before .before .before .before .before .before .before .before .before .before .before .four-byte-number2 .result) (c .before .before .before .before .before .before .before .before .before .before .before .four-byte-number2 .ensures) (c .before .before .before .before .before .before .before .before .before .before .if3 .left) (omega arith) (c .before .before .before .before .before .before .before .before .two-byte-number .result) (c .before .before .before .before .before .before .before .before .two-byte-number .ensures) (c .before .before .before .before .before .before .before .if5 .left) (c .before .before .before .before .before .before .two-byte-number2 .result) (c .before .before .before .before .before .before .two-byte-number2 .ensures) (sym (c .before .before .before .before .before .count-ok .ensures) ∙ c .before .before .before .before .if6 .taken) (c .before .before .before .two-byte-number3 .result) (c .before .before .before .two-byte-number3 .ensures) (sym (c .before .before .division-ok .ensures) ∙ c .before .if7 .taken)
 
 bad-requires-6 : tie.Need-bad-requires-6
 bad-requires-6 c κs = search needs
@@ -103,6 +111,7 @@ read-header-spec =
     count-ok-requires
     two-byte-number-requires-3
     division-ok-requires
+    division-of-requires
     add-t14
     returns-6
     bad-requires-6
