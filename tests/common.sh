@@ -181,6 +181,29 @@ pair() {
     printf "MThd\\0\\0\\0\\6\\0\\1\\0\\2\\0\\x60MTrk\\0\\0\\0$1$2MTrk\\0\\0\\0$3$4"
 }
 
+# filmed RATE FILE: the file with another division, SMPTE time code; RATE is frames a second x ticks a frame, as 25x40.
+filmed() {
+    head -c 12 "$2"
+    printf "\\x$(printf %x $((256 - ${1%x*})))\\x$(printf %x "${1#*x}")"
+    tail -c +15 "$2"
+}
+
+# gather_written: $made/written has NAME.short.mid and NAME.full.mid of each file of the corpus, as csvmidi wrote them.
+# It refuses SMPTE time code; files with that are gen-csvmidi__own_allkinds but for the division, which their names tell.
+gather_written() {
+    local file name manner
+    mkdir "$made/written"
+    for file in "$corpus"/*.mid; do
+        name=$(basename "$file" .mid)
+        for manner in short full; do
+            case $name in
+            *smpte*) filmed "${name##*smpte}" "$expected/gen-csvmidi__own_allkinds.$manner.mid" ;;
+            *) cat "$expected/$name.$manner.mid" ;;
+            esac >"$made/written/$name.$manner.mid"
+        done
+    done
+}
+
 # text LINE: a text whose line 3 is given.
 text() {
     printf '0, 0, Header, 0, 1, 96\n1, 0, Start_track\n%s\n1, 0, End_track\n0, 0, End_of_file\n' "$1"

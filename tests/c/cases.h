@@ -9,11 +9,14 @@
 #define READ_LIMIT 33554432
 #define TABLE_LIMIT 268435456
 
-#define HEADER "MThd\0\0\0\6\0\0\0\1\0\x60"
+#define HEADER_OF(division) "MThd\0\0\0\6\0\0\0\1" division
+#define HEADER HEADER_OF("\0\x60")
 #define CHUNK(length, body) "MTrk\0\0\0" length body
 /* The length goes up to 255; the body begins at byte 22. */
 #define TRACK(length, body) HEADER CHUNK(length, body)
 #define END "\0\xFF\x2F\0"
+/* The smallest file with such a division. */
+#define ONLY_END_OF(division) HEADER_OF(division) CHUNK("\4", END)
 /* A chunk of another kind, of 12 bytes, and a header of 26 that holds a track's bytes. */
 #define OTHER "XFIH\0\0\0\4" END
 #define LONG_HEADER "MThd\0\0\0\x12\0\0\0\1\0\x60" CHUNK("\4", END)
@@ -51,7 +54,26 @@ static const struct file_case cases[] = {
     {"a longer header", BYTES(LONG_HEADER CHUNK("\4", END)), NOFERKASH_OK, 0},
     {"format 3", BYTES("MThd\0\0\0\6\0\3\0\1\0\x60"), NOFERKASH_BAD_HEADER, 8},
     {"format 0 with 2 tracks", BYTES("MThd\0\0\0\6\0\0\0\2\0\x60"), NOFERKASH_BAD_HEADER, 10},
-    {"film division", BYTES("MThd\0\0\0\6\0\0\0\1\xE7\x28"), NOFERKASH_BAD_HEADER, 12},
+    {"division 0", BYTES(ONLY_END_OF("\0\0")), NOFERKASH_BAD_HEADER, 12},
+    {"division 1", BYTES(ONLY_END_OF("\0\1")), NOFERKASH_OK, 0},
+    {"division 32767", BYTES(ONLY_END_OF("\x7F\xFF")), NOFERKASH_OK, 0},
+    {"128 frames", BYTES(ONLY_END_OF("\x80\x28")), NOFERKASH_BAD_HEADER, 12},
+    {"1 frame", BYTES(ONLY_END_OF("\xFF\xFF")), NOFERKASH_BAD_HEADER, 12},
+    {"31 frames", BYTES(ONLY_END_OF("\xE1\x28")), NOFERKASH_BAD_HEADER, 12},
+    {"30 frames of 255 ticks", BYTES(ONLY_END_OF("\xE2\xFF")), NOFERKASH_OK, 0},
+    {"30 frames of no tick", BYTES(ONLY_END_OF("\xE2\0")), NOFERKASH_BAD_HEADER, 12},
+    {"29 frames of 4 ticks", BYTES(ONLY_END_OF("\xE3\4")), NOFERKASH_OK, 0},
+    {"29 frames of no tick", BYTES(ONLY_END_OF("\xE3\0")), NOFERKASH_BAD_HEADER, 12},
+    {"28 frames", BYTES(ONLY_END_OF("\xE4\x28")), NOFERKASH_BAD_HEADER, 12},
+    {"26 frames", BYTES(ONLY_END_OF("\xE6\x28")), NOFERKASH_BAD_HEADER, 12},
+    {"25 frames of 40 ticks", BYTES(ONLY_END_OF("\xE7\x28")), NOFERKASH_OK, 0},
+    {"25 frames of no tick", BYTES(ONLY_END_OF("\xE7\0")), NOFERKASH_BAD_HEADER, 12},
+    {"24 frames of 1 tick", BYTES(ONLY_END_OF("\xE8\1")), NOFERKASH_OK, 0},
+    {"24 frames of 255 ticks", BYTES(ONLY_END_OF("\xE8\xFF")), NOFERKASH_OK, 0},
+    {"24 frames of no tick", BYTES(ONLY_END_OF("\xE8\0")), NOFERKASH_BAD_HEADER, 12},
+    {"23 frames", BYTES(ONLY_END_OF("\xE9\x28")), NOFERKASH_BAD_HEADER, 12},
+    {"26 frames, and no track", BYTES(HEADER_OF("\xE6\x28")), NOFERKASH_BAD_HEADER, 12},
+    {"25 frames, and no track", BYTES(HEADER_OF("\xE7\x28")), NOFERKASH_FILE_CUT_SHORT, 14},
     {"no track but another chunk", BYTES(HEADER OTHER), NOFERKASH_FILE_CUT_SHORT, 26},
     {"another chunk, then 7 bytes", BYTES(HEADER OTHER "MTrk\0\0\0"), NOFERKASH_FILE_CUT_SHORT, 26},
     {"another chunk past the end", BYTES(HEADER "XFIH\0\0\0\5" END), NOFERKASH_FILE_CUT_SHORT, 14},
@@ -104,7 +126,7 @@ struct written_case {
 /* The example of document 01 in both manners, 40 and 39 bytes. */
 #define FULL TRACK("\x12", "\0\xFF\3\2\x41\x22\0\x90\x3C\x40\x60\x90\x3C\0" END)
 #define SHORT TRACK("\x11", "\0\xFF\3\2\x41\x22\0\x90\x3C\x40\x60\x3C\0" END)
-#define ONLY_END TRACK("\4", END)
+#define ONLY_END ONLY_END_OF("\0\x60")
 #define AMONG_OTHERS LONG_HEADER OTHER CHUNK("\4", END) OTHER HEADER
 #define TWO_TRACKS "MThd\0\0\0\6\0\1\0\2\0\x60"
 /* A refusal other than 14 has the length 0. */
@@ -143,10 +165,13 @@ static const struct written_case tidy_cases[] = {
      BYTES(ONLY_END)},
     {"the same in room one short", BYTES(AMONG_OTHERS), 25, NOFERKASH_ROOM_TOO_SMALL, 0,
      BYTES(ONLY_END)},
+    {"25 frames of 40 ticks stay", BYTES(HEADER_OF("\xE7\x28") CHUNK("\5", "\x80" END)), 26,
+     NOFERKASH_OK, 0, BYTES(ONLY_END_OF("\xE7\x28"))},
+    {"30 frames of 255 ticks stay", BYTES(ONLY_END_OF("\xE2\xFF")), 40, NOFERKASH_OK, 0,
+     BYTES(ONLY_END_OF("\xE2\xFF"))},
 
     {"empty file", BYTES(""), 40, NOFERKASH_FILE_CUT_SHORT, 0, NOTHING},
-    {"film division", BYTES("MThd\0\0\0\6\0\0\0\1\xE7\x28" CHUNK("\4", END)), 40,
-     NOFERKASH_BAD_HEADER, 12, NOTHING},
+    {"25 frames of no tick", BYTES(ONLY_END_OF("\xE7\0")), 40, NOFERKASH_BAD_HEADER, 12, NOTHING},
     {"Tempo 0 after notes",
      BYTES(TRACK("\23", "\0\x90\x3C\x40\0\x90\x3C\0\0\xFF\x51\3\0\0\0" END)), 60,
      NOFERKASH_BAD_META_VALUE, 30, NOTHING},
@@ -189,6 +214,9 @@ static const struct written_case fold_cases[] = {
     {"other chunks round and between the tracks",
      BYTES(TWO_TRACKS OTHER CHUNK("\13", "\5\x90\3\1\0\2\1" END) HEADER
            CHUNK("\10", "\5\x90\1\1" END) OTHER), 36, NOFERKASH_OK, 0, BYTES(TIES_FOLDED)},
+    {"29 frames of 4 ticks",
+     BYTES("MThd\0\0\0\6\0\1\0\2\xE3\4" CHUNK("\4", END) CHUNK("\10", "\5\x90\1\1" END)), 40,
+     NOFERKASH_OK, 0, BYTES(HEADER_OF("\xE3\4") CHUNK("\10", "\5\x90\1\1" END))},
 
     {"format 2", BYTES(ONE_OF_FORMAT("\2")), 60, NOFERKASH_FORMAT_2, 8, NOTHING},
     {"format 2, no room", BYTES(ONE_OF_FORMAT("\2")), 0, NOFERKASH_FORMAT_2, 8, NOTHING},
@@ -204,6 +232,7 @@ static const struct written_case fold_cases[] = {
     {"MIDI_port, and no room", BYTES(TWO_TRACKS CHUNK("\11", PORT END) CHUNK("\4", END)), 0,
      NOFERKASH_PREFIX_OR_PORT, 22, NOTHING},
     {"empty file", BYTES(""), 40, NOFERKASH_FILE_CUT_SHORT, 0, NOTHING},
+    {"28 frames", BYTES(ONLY_END_OF("\xE4\4")), 60, NOFERKASH_BAD_HEADER, 12, NOTHING},
     {"Tempo 0 after a MIDI_port",
      BYTES(TWO_TRACKS CHUNK("\11", PORT END) CHUNK("\13", "\0\xFF\x51\3\0\0\0" END)), 60,
      NOFERKASH_BAD_META_VALUE, 39, NOTHING},

@@ -133,8 +133,8 @@ static void damage_chunk(struct input *file, size_t place, uint8_t byte)
 
 void damage_file(struct input *file)
 {
-    static const uint8_t bytes[] = {0,    1,    2,    3,    5,    0x2F, 0x7F, 0x80,
-                                    0x81, 0x90, 0xC0, 0xF0, 0xF7, 0xFE, 0xFF};
+    static const uint8_t bytes[] = {0,    1,    2,    3,    5,    0x2F, 0x7F, 0x80, 0x81,
+                                    0x90, 0xC0, 0xE6, 0xE7, 0xF0, 0xF7, 0xFE, 0xFF};
     uint8_t byte = bytes[below(sizeof bytes)];
     size_t at = file->length > 0 ? below(file->length) : 0, how = below(18);
 
@@ -213,6 +213,19 @@ static void change_time(struct input *text, size_t start)
         splice(text, start + first + 1, second - first - 1, time, strlen(time));
 }
 
+/* Another division: the last field of the first line, whatever that is. */
+static void change_division(struct input *text)
+{
+    static const char *const divisions[] = {"-6360", "-6400", "-6616", "-1",     "-256", "-7424",
+                                            "59176", "-0",    "32767", "-32768", "-32769"};
+    const char *division = divisions[below(sizeof divisions / sizeof divisions[0])];
+    size_t length = line_length(text, 0), start = length;
+
+    while (start > 0 && text->at[start - 1] != ',' && text->at[start - 1] != ';')
+        start--;
+    splice(text, start, length - start, division, strlen(division));
+}
+
 void damage_text(struct input *text)
 {
     static const char bytes[] = ",;\"\\\t \r\n#-+09aZ_\x80\xFF\x01";
@@ -220,7 +233,7 @@ void damage_text(struct input *text)
     size_t start = line_start(text, at), length = line_length(text, start);
     uint8_t line[256];
 
-    switch (below(12)) {
+    switch (below(13)) {
     case 0:
         text->length = below(2) ? at : start;
         break;
@@ -248,6 +261,9 @@ void damage_text(struct input *text)
         break;
     case 7:
         splice(text, 0, 0, below(2) ? "\xEF\xBB\xBF" : "# x\n\n", 3);
+        break;
+    case 8:
+        change_division(text);
         break;
     default:
         change_field(text, at);

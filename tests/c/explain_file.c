@@ -178,6 +178,26 @@ static void look_at_cut(const struct input *file, uint64_t answer, const struct 
     }
 }
 
+/* The division: with 25 frames a second, and one tick where none is told, it is not refused. */
+static void look_at_division(const struct input *file, uint64_t answer, unsigned long frames)
+{
+    int no_ticks = strstr(said, " with 0 ticks ") != NULL;
+
+    divisions_told++;
+    mended = *file;
+    mended.at[12] = 0xE7;
+    mended.at[13] |= (uint8_t)(mended.at[13] == 0);
+    mended_count++;
+    if (NOFERKASH_PLACE(answer) != 12 || frames != 0x100ul - file->at[12] ||
+        (no_ticks && file->at[13] != 0) || answer_to(&mended) == answer)
+        fail("another division");
+    /* Whether it is the rate that is not permitted. */
+    mended = *file;
+    mended.at[13] = 1;
+    if ((answer_to(&mended) == answer) == no_ticks)
+        fail("the rate is, or is not, at fault");
+}
+
 void look_at_file(const struct input *file, uint64_t answer)
 {
     struct before before = count_before(file, NOFERKASH_PLACE(answer));
@@ -201,6 +221,10 @@ void look_at_file(const struct input *file, uint64_t answer)
     else if (sscanf(said, "header length %lu, under 6", &due) == 1 &&
              (due != four_bytes(file->at + 4) || due >= 6))
         fail("another length");
+    else if (sscanf(said, "SMPTE time code of %lu frame", &due) == 1)
+        look_at_division(file, answer, due);
+    else if (strcmp(said, "division 0, not 1..32767") == 0 && (file->at[12] | file->at[13]) != 0)
+        fail("another division");
     else if (number == NOFERKASH_FILE_CUT_SHORT)
         look_at_cut(file, answer, &before);
 }

@@ -4,7 +4,8 @@
  * itself says: what they call missing mends the file when it is added, what they call due mends the
  * field when it is written there, and the text of a file that cannot be folded has what they name.
  * Made-up answers are tried too, for reading outside the input.
- * Prints for each number how many were refused, and how many got the words by number alone. */
+ * Prints for each number how many were refused, and how many got the words by number alone; and how
+ * often SMPTE time code was told of. */
 #include <stdio.h>
 #include <stdlib.h>
 #include <string.h>
@@ -18,7 +19,7 @@
 
 struct input mended;
 char words[EXPLAIN_ROOM];
-unsigned long mended_count;
+unsigned long mended_count, divisions_told;
 
 static struct input inputs[MOST_INPUTS], damaged;
 static size_t inputs_count;
@@ -197,6 +198,26 @@ static int due_after(const char *said, const char *before, char due[32])
            strcmp(due, "an") != 0;
 }
 
+/* SMPTE time code that is refused: what is told of it is in its number, and a permitted rate mends it,
+ * or ticks where there are none. */
+static void look_at_time_code(const struct input *text, uint64_t answer, const char *said)
+{
+    int no_ticks = strstr(said, " with 0 ticks ") != NULL;
+    long number, frames, ticks;
+    char due[32];
+
+    divisions_told++;
+    if (sscanf(said, "field 6: %ld: SMPTE time code of %ld frame", &number, &frames) != 2) {
+        fail("no number, or another field");
+        return;
+    }
+    ticks = number + 256 * frames;
+    if (number < -32768 || number > -1 || ticks < 0 || ticks > 255 || (no_ticks && ticks != 0))
+        fail("the number says otherwise");
+    sprintf(due, "%ld", no_ticks ? 1 - 256 * frames : (ticks > 0 ? ticks : 1) - 256 * 29);
+    mend_field(text, answer, 6, due);
+}
+
 static void look_at_text(const struct input *text, uint64_t answer)
 {
     const char *said = after_given();
@@ -213,6 +234,8 @@ static void look_at_text(const struct input *text, uint64_t answer)
         mend_field(text, answer, field, "\"major\"");
     else if (strstr(said, " is no record name") != NULL)
         mend_field(text, answer, field, "Tempo");
+    else if (strstr(said, ": SMPTE time code of ") != NULL)
+        look_at_time_code(text, answer, said);
     else if (due_after(said, " is not ", due) || due_after(said, "after Time ", due) ||
              due_after(said, "backwards, after ", due) || due_after(said, ", not ", due))
         mend_field(text, answer, field, due);
@@ -316,6 +339,7 @@ int main(int argc, char **argv)
     for (i = 0; i < 256; i++)
         if (refused[i] > 0)
             printf("%d: %lu refused, %lu by number alone\n", i, refused[i], by_number[i]);
+    printf("%lu words about SMPTE time code\n", divisions_told);
     printf("%lu mended, %lu failed\n", mended_count, failures);
     return failures > 0;
 }

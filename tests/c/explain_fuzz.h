@@ -9,8 +9,8 @@
 extern char words[EXPLAIN_ROOM];
 extern struct input mended;
 
-/* How often words were held against the library. */
-extern unsigned long mended_count;
+/* How often words were held against the library, and how often they told of SMPTE time code. */
+extern unsigned long mended_count, divisions_told;
 
 uint64_t answer_to(const struct input *input);
 

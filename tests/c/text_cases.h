@@ -10,6 +10,8 @@
 #define START_LINE "1, 0, Start_track\n"
 #define END_LINES "1, 0, End_track\n0, 0, End_of_file\n"
 #define TEXT(lines) HEADER_LINE START_LINE lines END_LINES
+/* The text of ONLY_END_OF, by its division. */
+#define TEXT_OF(division) "0, 0, Header, 0, 1, " division "\n" START_LINE END_LINES
 #define EXAMPLE_TEXT \
     HEADER_LINE START_LINE "1, 0, Title_t, \"A\"\"\"\n1, 0, Note_on_c, 0, 60, 64\n" \
     "1, 96, Note_on_c, 0, 60, 0\n1, 96, End_track\n0, 0, End_of_file\n"
@@ -74,10 +76,19 @@ static const struct written_case text_cases[] = {
      BYTES("0, 0, Header, 1, 2, 96\n1, 0, Start_track\n1, 7, Note_on_c, 0, 60, 64\n"
            "1, 7, End_track\n2, 0, Start_track\n2, 1, Note_on_c, 1, 60, 0\n"
            "2, 3, Note_on_c, 1, 60, 0\n2, 6, End_track\n0, 0, End_of_file\n")},
+    {"division 32767", BYTES(ONLY_END_OF("\x7F\xFF")), 100, NOFERKASH_OK, 0,
+     BYTES(TEXT_OF("32767"))},
+    {"24 frames of 255 ticks", BYTES(ONLY_END_OF("\xE8\xFF")), 100, NOFERKASH_OK, 0,
+     BYTES(TEXT_OF("-5889"))},
+    {"25 frames of 40 ticks", BYTES(ONLY_END_OF("\xE7\x28")), 78, NOFERKASH_OK, 0,
+     BYTES(TEXT_OF("-6360"))},
+    {"the same in room one short", BYTES(ONLY_END_OF("\xE7\x28")), 77, NOFERKASH_ROOM_TOO_SMALL, 0,
+     BYTES(TEXT_OF("-6360"))},
+    {"30 frames of 1 tick, always enough room", BYTES(ONLY_END_OF("\xE2\1")), 25 * 26,
+     NOFERKASH_OK, 0, BYTES(TEXT_OF("-7679"))},
 
     {"empty file", BYTES(""), 40, NOFERKASH_FILE_CUT_SHORT, 0, NOTHING},
-    {"film division", BYTES("MThd\0\0\0\6\0\0\0\1\xE7\x28" CHUNK("\4", END)), 1000,
-     NOFERKASH_BAD_HEADER, 12, NOTHING},
+    {"26 frames", BYTES(ONLY_END_OF("\xE6\x28")), 1000, NOFERKASH_BAD_HEADER, 12, NOTHING},
     {"Tempo 0 after notes",
      BYTES(TRACK("\23", "\0\x90\x3C\x40\0\x90\x3C\0\0\xFF\x51\3\0\0\0" END)), 60,
      NOFERKASH_BAD_META_VALUE, 30, NOTHING},
@@ -141,10 +152,11 @@ static const struct written_case sheet_cases[] = {
      BYTES("0,0,Header,1,2,96\n1,0,Start_track\n1,7,Note_on_c,0,60,64\n1,7,End_track\n"
            "2,0,Start_track\n2,1,Note_on_c,1,60,0\n2,3,Note_on_c,1,60,0\n2,6,End_track\n"
            "0,0,End_of_file\n")},
+    {"29 frames of 4 ticks", BYTES(ONLY_END_OF("\xE3\4")), 100, NOFERKASH_OK, 0,
+     BYTES("0,0,Header,0,1,-7420\n1,0,Start_track\n1,0,End_track\n0,0,End_of_file\n")},
 
     {"empty file", BYTES(""), 40, NOFERKASH_FILE_CUT_SHORT, 0, NOTHING},
-    {"film division", BYTES("MThd\0\0\0\6\0\0\0\1\xE7\x28" CHUNK("\4", END)), 1000,
-     NOFERKASH_BAD_HEADER, 12, NOTHING},
+    {"26 frames", BYTES(ONLY_END_OF("\xE6\x28")), 1000, NOFERKASH_BAD_HEADER, 12, NOTHING},
     {"Tempo 0 after notes",
      BYTES(TRACK("\23", "\0\x90\x3C\x40\0\x90\x3C\0\0\xFF\x51\3\0\0\0" END)), 23 * 41,
      NOFERKASH_BAD_META_VALUE, 30, NOTHING},
@@ -206,6 +218,9 @@ struct read_case {
     THIRD(line), 1, 100, NOFERKASH_OK, 0, BYTES(TRACK(length, "\0" body END))
 #define BAD_THIRD(line, number) THIRD(line), 1, 100, number, 3, NOTHING
 #define BAD(text, number, line) BYTES(text), 1, 100, number, line, NOTHING
+#define GOOD_DIVISION(field, division) \
+    BYTES(TEXT_OF(field)), 1, 100, NOFERKASH_OK, 0, BYTES(ONLY_END_OF(division))
+#define BAD_DIVISION(field) BAD(TEXT_OF(field), NOFERKASH_FIELD_OUT_OF_RANGE, 1)
 
 static const struct read_case file_cases[] = {
     {"the example of document 01", BYTES(EXAMPLE_TEXT), 1, 39, NOFERKASH_OK, 0, BYTES(SHORT)},
@@ -235,6 +250,13 @@ static const struct read_case file_cases[] = {
      GOOD_THIRD("1, 0, Text_t, \"\\377\\000\"", "\12", "\xFF\1\2\xFF\0")},
     {"key -7", GOOD_THIRD("1, 0, Key_signature, -7, \"mino\\162\"", "\12", "\xFF\x59\2\xF9\1")},
     {"ten digits", GOOD_THIRD("1, 0, Tempo, 0016777215", "\13", "\xFF\x51\3\xFF\xFF\xFF")},
+    {"division 1", GOOD_DIVISION("1", "\0\1")},
+    {"division 32767", GOOD_DIVISION("32767", "\x7F\xFF")},
+    {"24 frames of 1 tick", GOOD_DIVISION("-6143", "\xE8\1")},
+    {"25 frames of 40 ticks", GOOD_DIVISION("-6360", "\xE7\x28")},
+    {"the same in ten digits", GOOD_DIVISION("-0000006360", "\xE7\x28")},
+    {"29 frames of 255 ticks", GOOD_DIVISION("-7169", "\xE3\xFF")},
+    {"30 frames of 80 ticks", GOOD_DIVISION("-7600", "\xE2\x50")},
 
     {"\\400", BAD_THIRD("1, 0, Text_t, \"\\400\"", NOFERKASH_BAD_FIELD)},
     {"eleven digits", BAD_THIRD("1, 0, Tempo, 00000000001", NOFERKASH_BAD_FIELD)},
@@ -258,6 +280,22 @@ static const struct read_case file_cases[] = {
     {"Track 65536", BAD_THIRD("65536, 0, Tempo, 1", NOFERKASH_FIELD_OUT_OF_RANGE)},
     {"format 0 with 2 tracks", BAD("0, 0, Header, 0, 2, 96\n", NOFERKASH_FIELD_OUT_OF_RANGE, 1)},
     {"65536 tracks", BAD("0, 0, Header, 1, 65536, 96\n", NOFERKASH_FIELD_OUT_OF_RANGE, 1)},
+    {"division 0", BAD_DIVISION("0")},
+    {"division -0", BAD_DIVISION("-0")},
+    {"division 32768", BAD_DIVISION("32768")},
+    {"25 frames of 40 ticks, not as signed", BAD_DIVISION("59176")},
+    {"the same 16 bits, under -32768", BAD_DIVISION("-71896")},
+    {"24 frames of no tick", BAD_DIVISION("-6144")},
+    {"25 frames of no tick", BAD_DIVISION("-6400")},
+    {"29 frames of no tick", BAD_DIVISION("-7424")},
+    {"30 frames of no tick", BAD_DIVISION("-7680")},
+    {"26 frames", BAD_DIVISION("-6616")},
+    {"31 frames", BAD_DIVISION("-7681")},
+    {"1 frame", BAD_DIVISION("-1")},
+    {"128 frames", BAD_DIVISION("-32768")},
+    {"division -32769", BAD_DIVISION("-32769")},
+    {"a name as division", BAD_DIVISION("frames")},
+    {"a text as division", BAD_DIVISION("\"-6360\"")},
     {"wrong Track", BAD_THIRD("2, 0, Tempo, 1", NOFERKASH_RECORD_OUT_OF_ORDER)},
     {"Time falls",
      BAD(HEADER_LINE START_LINE "1, 5, Tempo, 1\n1, 4, End_track\n",

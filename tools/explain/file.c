@@ -11,14 +11,11 @@
 enum { LEAST_LENGTH = 6, CHANNEL_PREFIX = 0x20, MIDI_PORT = 0x21, MOST_FOLDED = 64 };
 
 static int say_division(struct part file, struct words *words) {
-    if (file.at[12] < 0x80) {
-        return say(words, "division %" PRIu32, big_endian(file.at + 12, 2));
+    uint32_t division = big_endian(file.at + 12, 2);
+    if (division >= LEAST_TIME_CODE) {
+        return say_time_code(division, words);
     }
-    /* The frames are written as a number below 0. */
-    return say(words,
-               "SMPTE time code (%d frames a second, %d ticks a frame) is not read, "
-               "only pulses per quarter note",
-               0x100 - file.at[12], file.at[13]);
+    return division == 0 && say(words, "division 0, not 1..32767");
 }
 
 /* 3, by its place. */

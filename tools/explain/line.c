@@ -99,6 +99,22 @@ static int say_count(struct part line, struct words *words) {
                count - due);
 }
 
+/* A number that is no division of either kind. Below 0 its 16 bits are SMPTE time code. */
+static int say_division(size_t at, const struct field *field, const struct column *column,
+                        struct words *words) {
+    char room[SHOWN_ROOM];
+    int64_t number = field->number;
+    if (number >= INT16_MIN && number < 0) {
+        return !is_time_code((uint16_t)number) &&
+               say(words, "field %zu: %s: ", at, shown(field->written, room)) &&
+               say_time_code((uint16_t)number, words);
+    }
+    return (number < column->least || number > column->greatest) &&
+           say(words,
+               "field %zu: %s is not %" PRId64 "..%" PRId64 ", nor SMPTE time code (below 0)", at,
+               shown(field->written, room), column->least, column->greatest);
+}
+
 /* A column that is to hold a number. `before` is the number in the column before. */
 static int say_number(size_t at, const struct field *field, int64_t before,
                       const struct column *column, struct words *words) {
@@ -106,6 +122,9 @@ static int say_number(size_t at, const struct field *field, int64_t before,
     int64_t number = field->number;
     if (field->shape != NUMBER) {
         return say(words, "field %zu: %s is no number", at, shown(field->written, room));
+    }
+    if (column->kind == A_DIVISION) {
+        return say_division(at, field, column, words);
     }
     if (number < column->least || number > column->greatest) {
         return say(words, "field %zu: %s is not %" PRId64 "..%" PRId64, at,

@@ -53,6 +53,13 @@ struct chunk {
  * none that is whole. */
 int track_round(struct part file, size_t place, struct chunk *track);
 
+/* From here on the 16 bits of a division are SMPTE time code; below, pulses per quarter
+ * note. */
+enum { LEAST_TIME_CODE = 0x8000 };
+
+/* Whether such bits have a rate and ticks that are permitted. */
+int is_time_code(uint32_t division);
+
 /* Each of these adds words, or adds nothing and answers 0 if it has found none. */
 
 /* What was really given, without the semicolon after it. */
@@ -69,5 +76,8 @@ int explain_line(struct part text, int number, size_t place, struct words *words
 
 /* About 26 to 28: a line after all those before it. */
 int explain_order(struct part text, int number, size_t place, struct words *words);
+
+/* What is wrong with SMPTE time code, in a file (3) or in a text (25). */
+int say_time_code(uint32_t division, struct words *words);
 
 #endif

@@ -14,7 +14,7 @@
     { A_LENGTH, 0, UINT32_MAX }
 
 static const struct record records[] = {
-    {"Header", FIRST, {BETWEEN(0, 2), {A_TRACK_COUNT, 1, 65535}, BETWEEN(1, 32767)}},
+    {"Header", FIRST, {BETWEEN(0, 2), {A_TRACK_COUNT, 1, 65535}, {A_DIVISION, 1, 32767}}},
     {"Start_track", STARTS_TRACK, {{NO_COLUMN, 0, 0}}},
     {"End_track", ENDS_TRACK, {{NO_COLUMN, 0, 0}}},
     {"End_of_file", LAST, {{NO_COLUMN, 0, 0}}},

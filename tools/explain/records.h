@@ -9,6 +9,7 @@ enum column_kind {
     NO_COLUMN,
     A_NUMBER,
     A_TRACK_COUNT, /* a number, and 1 where the column before is 0 */
+    A_DIVISION,    /* a number of pulses, or SMPTE time code as 16 bits read as signed */
     A_META_TYPE,   /* a number, and none that has a record of its own */
     A_LENGTH,      /* a number; as many data follow */
     A_TEXT,
