@@ -5,10 +5,12 @@
  *
  * Every answer is one number of 64 bits, number * 2^56 + place * 2^28 + length,
  * which the macros below take apart. The piece of a file or text is what it says:
- * the format, the division, and the events of each track with their Times. In a file
- * a track is a chunk with the tag MTrk. Chunks with other tags, and what a header has
- * behind its first 14 bytes, are passed over: they are no part of the piece, and no
- * function writes them.
+ * the format, the division, and the events of each track with their Times. The division
+ * is the number of pulses in a quarter note, 1..32767, or SMPTE time code: 24, 25, 29
+ * or 30 frames a second, of 1..255 ticks each. Times count pulses, or such ticks, and
+ * every function takes both kinds. In a file a track is a chunk with the tag MTrk.
+ * Chunks with other tags, and what a header has behind its first 14 bytes, are passed
+ * over: they are no part of the piece, and no function writes them.
  *
  * The caller must ensure:
  * - a pointer is valid for as many bytes as the length beside it says; where that
@@ -31,9 +33,9 @@
 #include <stdint.h>
 
 /* Of this header. noferkash_version() has that of the library. */
-#define NOFERKASH_VERSION "0.5.0"
+#define NOFERKASH_VERSION "0.6.0"
 #define NOFERKASH_VERSION_MAJOR 0
-#define NOFERKASH_VERSION_MINOR 5
+#define NOFERKASH_VERSION_MINOR 6
 #define NOFERKASH_VERSION_PATCH 0
 
 /* The largest file, read or written, the largest text read and the largest table, in bytes. */
@@ -203,7 +205,7 @@ uint64_t noferkash_sheet_to_text(const uint8_t *saved, size_t saved_len, uint8_t
  * track"; for every other number "unknown refusal number". */
 const char *noferkash_refusal_words(int number);
 
-/* The version of the library, as "0.5.0". */
+/* The version of the library, as "0.6.0". */
 const char *noferkash_version(void);
 
 #ifdef __cplusplus
