@@ -1,8 +1,9 @@
 //! What the files of a run had besides their pieces, and how their headers and chunks were
-//! refused. A run that compares files must have met all of it; else it says less than it
-//! seems to.
+//! refused. A run that compares files must have met all of it.
 
 use std::ops::RangeInclusive;
+
+use crate::tally::Tally;
 
 /// Of a refused file. Too long means past the file's end.
 const REFUSED: [&str; 14] = [
@@ -16,9 +17,8 @@ const REFUSED: [&str; 14] = [
 /// So many bytes left, too few for a chunk, where a track is due and behind all tracks.
 const FEW_LEFT: RangeInclusive<usize> = 1..=7;
 
-/// Name of each, and how often it was met.
 pub struct ChunkCoverage {
-    counts: Vec<(String, u64)>,
+    pub tally: Tally,
 }
 
 impl Default for ChunkCoverage {
@@ -26,7 +26,7 @@ impl Default for ChunkCoverage {
         let names = ChunkCoverage::GOOD.iter().chain(&REFUSED).map(|name| name.to_string());
         let few = [true, false].into_iter();
         let few = few.flat_map(|due| FEW_LEFT.map(move |left| few_left(left, due)));
-        ChunkCoverage { counts: names.chain(few).map(|name| (name, 0)).collect() }
+        ChunkCoverage { tally: Tally::of(names.chain(few)) }
     }
 }
 
@@ -77,16 +77,16 @@ impl ChunkCoverage {
     pub fn add(&mut self, file: &[u8], number: u8, place: usize) {
         match (number, place) {
             (0, _) => self.add_good(file),
-            (3, 4) => self.met("3 at 4"),
+            (3, 4) => self.tally.met("3 at 4"),
             (2, 0) if file.len() >= 14 => {
                 self.too_long("header", "", number_at(file, 4) + 8 - file.len());
             }
             (2, 1..) => self.add_cut(file, place),
             (13, _) => {
                 let fits = number_at(file, place + 4) <= file.len() - place - 8;
-                self.met(if fits { "13 fitting" } else { "13 not fitting" });
+                self.tally.met(if fits { "13 fitting" } else { "13 not fitting" });
                 if chunks_until(file, place).last().is_some_and(|chunk| !chunk.is_track()) {
-                    self.met("13 behind a chunk");
+                    self.tally.met("13 behind a chunk");
                 }
             }
             _ => {}
@@ -95,20 +95,21 @@ impl ChunkCoverage {
 
     fn add_good(&mut self, file: &[u8]) {
         let extra = &file[14..8 + number_at(file, 4)];
-        self.met_if("long header", !extra.is_empty());
-        self.met_if("MTrk in a long header", holds_track(extra));
+        self.tally.met_if("long header", !extra.is_empty());
+        self.tally.met_if("MTrk in a long header", holds_track(extra));
         let chunks = chunks_until(file, file.len());
         let tracks: Vec<bool> = chunks.iter().map(Chunk::is_track).collect();
         let first = tracks.iter().position(|track| *track).unwrap_or(0);
         let last = tracks.iter().rposition(|track| *track).unwrap_or(0);
-        self.met_if("chunk before the first track", first > 0);
-        self.met_if("chunk between tracks", tracks[first..=last].contains(&false));
-        self.met_if("chunk behind the last track", last + 1 < chunks.len());
-        self.met_if("several chunks in a row", tracks.windows(2).any(|two| two == [false; 2]));
+        self.tally.met_if("chunk before the first track", first > 0);
+        self.tally.met_if("chunk between tracks", tracks[first..=last].contains(&false));
+        self.tally.met_if("chunk behind the last track", last + 1 < chunks.len());
+        self.tally
+            .met_if("several chunks in a row", tracks.windows(2).any(|two| two == [false; 2]));
         let unknown = || chunks.iter().filter(|chunk| !chunk.is_track());
-        self.met_if("second MThd", unknown().any(|chunk| chunk.tag == b"MThd"));
-        self.met_if("MTrk in a chunk", unknown().any(|chunk| holds_track(chunk.data)));
-        self.met_if("empty chunk", unknown().any(|chunk| chunk.data.is_empty()));
+        self.tally.met_if("second MThd", unknown().any(|chunk| chunk.tag == b"MThd"));
+        self.tally.met_if("MTrk in a chunk", unknown().any(|chunk| holds_track(chunk.data)));
+        self.tally.met_if("empty chunk", unknown().any(|chunk| chunk.data.is_empty()));
     }
 
     /// 2 at the first byte of a chunk, or where one is due.
@@ -119,10 +120,10 @@ impl ChunkCoverage {
         let left = file.len() - place;
         if left == 0 {
             let behind = before.last().is_some_and(|chunk| !chunk.is_track());
-            self.met("none left, track due");
-            self.met_if("none left behind a chunk, track due", behind);
+            self.tally.met("none left, track due");
+            self.tally.met_if("none left behind a chunk, track due", behind);
         } else if FEW_LEFT.contains(&left) {
-            self.met(&few_left(left, due));
+            self.tally.met(&few_left(left, due));
         } else {
             let over = number_at(file, place + 4) + 8 - left;
             match (&file[place..place + 4], due) {
@@ -134,36 +135,7 @@ impl ChunkCoverage {
     }
 
     fn too_long(&mut self, what: &str, standing: &str, over: usize) {
-        self.met(&format!("{what} too long{standing}"));
-        self.met_if(&format!("{what} too long by one byte{standing}"), over == 1);
-    }
-
-    fn met_if(&mut self, name: &str, met: bool) {
-        if met {
-            self.met(name);
-        }
-    }
-
-    fn met(&mut self, name: &str) {
-        let found = self.counts.iter_mut().find(|(known, _)| known == name);
-        found.expect("a name of the list").1 += 1;
-    }
-
-    /// What was due but never met.
-    pub fn missing(&self) -> Vec<String> {
-        let never = self.counts.iter().filter(|(_, count)| *count == 0);
-        never.map(|(name, _)| name.clone()).collect()
-    }
-
-    /// The one met least often.
-    pub fn least(&self) -> (&str, u64) {
-        let least = self.counts.iter().min_by_key(|(_, count)| *count);
-        least.map(|(name, count)| (name.as_str(), *count)).expect("a list that is not empty")
-    }
-
-    /// How often each was met, in words.
-    pub fn summary(&self) -> String {
-        let counts = self.counts.iter().map(|(name, count)| format!("{name} {count}"));
-        counts.collect::<Vec<_>>().join("; ")
+        self.tally.met(&format!("{what} too long{standing}"));
+        self.tally.met_if(&format!("{what} too long by one byte{standing}"), over == 1);
     }
 }

@@ -32,25 +32,41 @@ pub fn outside_files() -> Vec<(String, Vec<u8>)> {
 
 /// What is stored for an outside file: its text (`csv`), what csvmidi makes of that in
 /// manner 1 (`short.mid`) and manner 0 (`full.mid`), and its tracks as mido merges them
-/// (`fold.mid`).
+/// (`fold.mid`). Of those with film divisions only the text is.
 pub fn expected(name: &str, ending: &str) -> Vec<u8> {
     let path = corpus().join("expected").join(format!("{name}.{ending}"));
     fs::read(&path).unwrap_or_else(|error| panic!("{}: {error}", path.display()))
 }
 
-/// Document 01 refuses these (3 at 12), and csvmidi their text.
+/// midicsv writes the text of these, but csvmidi refuses it.
 pub fn has_film_division(name: &str) -> bool {
     name.contains("smpte")
+}
+
+/// What an outside file's text must give: what csvmidi made of it (`short.mid`, `full.mid`).
+/// Those with film divisions are one and the same file but for their division, and csvmidi
+/// wrote that file.
+pub fn expected_back(name: &str, ending: &str) -> Vec<u8> {
+    let division = match name.strip_prefix("gen-csvmidi__own_smpte") {
+        None => return expected(name, ending),
+        Some("25x40") => [0xE7, 40],
+        Some("29x4") => [0xE3, 4],
+        Some("30x80") => [0xE2, 80],
+        Some(_) => panic!("{name}: not known"),
+    };
+    let mut file = expected("gen-csvmidi__own_allkinds", ending);
+    file[12..14].copy_from_slice(&division);
+    file
 }
 
 /// What an outside file folds to: what mido merges its tracks to, or the refusal due.
 pub fn expected_fold(name: &str) -> Result<Vec<u8>, Answer> {
     let refused = |number, place| Err(Answer { number, place, length: 0 });
     match name {
-        _ if has_film_division(name) => refused(3, 12),
         _ if name.contains("format2") => refused(32, 8),
-        // Where the delta of track 1's Channel_prefix stands in both spellings.
-        _ if name.contains("allkinds") => refused(33, 131),
+        // Where the delta of track 1's Channel_prefix stands in both spellings; those with
+        // film divisions have the same events.
+        _ if name.contains("allkinds") || has_film_division(name) => refused(33, 131),
         _ => Ok(expected(name, "fold.mid")),
     }
 }

@@ -50,18 +50,27 @@ impl Format {
     }
 }
 
-/// Its own type, so that a second kind of division can join.
+/// What a tick is a part of.
 #[derive(Clone, Copy, Debug, PartialEq, Eq)]
 pub enum Division {
     /// Pulses to the quarter note, 1..32767.
     Pulses(u16),
+    /// Film: frames to the second, one of `RATES`, and ticks to the frame, 1..255.
+    Frames { rate: u8, ticks: u8 },
 }
 
 impl Division {
-    /// From the 16 bits of the header, read as signed.
+    pub const RATES: [u8; 4] = [24, 25, 29, 30];
+
+    /// From the 16 bits of the header, read as signed: a rate is a negative high byte.
     pub fn from_signed(signed: i16) -> Option<Division> {
+        let [high, ticks] = signed.to_be_bytes();
+        let rate = high.wrapping_neg();
         match signed {
             1.. => Some(Division::Pulses(signed as u16)),
+            _ if Division::RATES.contains(&rate) && ticks > 0 => {
+                Some(Division::Frames { rate, ticks })
+            }
             _ => None,
         }
     }
@@ -69,6 +78,7 @@ impl Division {
     pub fn signed(self) -> i16 {
         match self {
             Division::Pulses(pulses) => pulses as i16,
+            Division::Frames { rate, ticks } => i16::from_be_bytes([rate.wrapping_neg(), ticks]),
         }
     }
 }

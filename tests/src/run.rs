@@ -12,17 +12,22 @@ use std::time::{Duration, Instant};
 use crate::chunk_coverage::ChunkCoverage;
 use crate::compare::{Difference, Met, Operation, Room};
 use crate::coverage::Coverage;
-use crate::generate::{Aim, LimitCase, LimitTable, LimitText, Rng};
+use crate::division_coverage::{DivisionCoverage, Given};
+use crate::every_division::Known;
+use crate::generate::{room, Aim, LimitCase, LimitTable, LimitText, Rng};
 use crate::piece::Piece;
 use crate::refusal::{Answer, Refusal};
 
 /// Of a run with many differences, or with many aims never met.
 const SHOWN: u64 = 10;
+/// What a byte of lent room that must stay holds.
+const SPARE: u8 = 0xA5;
 /// Texts over this size take long.
 const LONG: usize = 1 << 24;
 /// How often a run says how far it is.
 const PROGRESS: Duration = Duration::from_secs(60);
-/// The source whose accepted inputs are to hold all that `Coverage` has.
+/// The source whose accepted inputs are to hold all that `Coverage` has, and whose inputs
+/// are to meet all that `DivisionCoverage` knows: others have every division by hand.
 pub const GENERATED: &str = "generated";
 
 pub type Reader = fn(&[u8]) -> Result<Piece, Refusal>;
@@ -34,6 +39,8 @@ pub struct Run<'a> {
     read: Option<Reader>,
     /// What headers and chunks of all inputs were met, if that is to be seen.
     chunks: Option<ChunkCoverage>,
+    /// What divisions of the inputs of `GENERATED` were met, if that is to be seen.
+    divisions: Option<DivisionCoverage>,
     sources: Vec<Source>,
     /// Name of each aim, and how often it was met.
     aims: Vec<(String, u64)>,
@@ -80,6 +87,7 @@ impl Run<'_> {
             operation,
             read: None,
             chunks: None,
+            divisions: None,
             sources: Vec::new(),
             aims: Vec::new(),
             differences: 0,
@@ -98,6 +106,11 @@ impl Run<'_> {
     /// The same, of files that must meet all that `ChunkCoverage` knows.
     pub fn of_chunks(self) -> Self {
         Run { chunks: Some(ChunkCoverage::default()), ..self }
+    }
+
+    /// The same, of files or texts that must meet all that `DivisionCoverage` knows.
+    pub fn of_divisions(self, given: Given) -> Self {
+        Run { divisions: Some(DivisionCoverage::of(given)), ..self }
     }
 
     /// The same, of which differences are only counted.
@@ -229,6 +242,35 @@ impl Run<'_> {
         self.sources.push(source);
     }
 
+    /// The same on inputs whose whole answer is known, in just enough room, in some other
+    /// and in one that is always enough; both must give it.
+    pub fn known(&mut self, name: &'static str, cases: impl Iterator<Item = Known>) {
+        let mut source = Source::of(name, 0..0);
+        let rng = &mut Rng::new(0);
+        let manners = if self.operation.manners { 0..2 } else { 0..1 };
+        for Known { what, input, due } in cases {
+            source.seeds.end += 1;
+            for manner in manners.clone() {
+                let made = due.as_ref().map_or(&[][..], |made| &made[manner]);
+                let needed = made.len();
+                let mut rooms = vec![needed, room(rng, if needed == 0 { 64 } else { needed })];
+                rooms.extend(Some((self.operation.enough)(input.len())).filter(|room| *room > 0));
+                for room in rooms {
+                    let fits = (if room < needed { 14 } else { 0 }, 0);
+                    let due = due.as_ref().err().copied().unwrap_or(fits);
+                    let (operation, manner) = (self.operation, manner as u32);
+                    let compared = operation.compare_in(rng, &input, manner, room, needed);
+                    self.take_due(&mut source, &what, &input, compared, due);
+                }
+                // What the second program does is what both did.
+                let mut lent = vec![SPARE; needed + 1];
+                let answer = (self.operation.second)(&input, manner as u32, &mut lent);
+                self.expect(lent == [made, &[SPARE]].concat(), &what, answer);
+            }
+        }
+        self.sources.push(source);
+    }
+
     /// Counts what was met, which must be this number at this place.
     fn take_due(
         &mut self,
@@ -260,6 +302,9 @@ impl Run<'_> {
                 *source.met.entry(Key { number, room, manner }).or_insert(0) += 1;
                 if let Some(chunks) = &mut self.chunks {
                     chunks.add(input, number, place);
+                }
+                if let (GENERATED, Some(divisions)) = (source.name, &mut self.divisions) {
+                    divisions.add(input, number, place);
                 }
                 Some(met)
             }

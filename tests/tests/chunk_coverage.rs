@@ -15,10 +15,10 @@ fn file(tracks: u8, length: u8, rest: &[&[u8]]) -> Vec<u8> {
 /// The sorts that are met when the second program's answer to a file is added.
 fn met(file: &[u8]) -> String {
     let mut coverage = ChunkCoverage::default();
-    let all = coverage.missing();
+    let all = coverage.tally.missing();
     let answer = check(file);
     coverage.add(file, answer.number, answer.place);
-    let missing = coverage.missing();
+    let missing = coverage.tally.missing();
     let met: Vec<String> = all.into_iter().filter(|name| !missing.contains(name)).collect();
     met.join("; ")
 }
@@ -80,11 +80,11 @@ fn each_sort_is_told() {
 #[test]
 fn counts_go_up_and_what_is_missing_goes_down() {
     let mut coverage = ChunkCoverage::default();
-    assert_eq!(coverage.missing().len(), 37);
+    assert_eq!(coverage.tally.missing().len(), 37);
     let track = chunk(&hex("00 FF 2F 00"));
     for _ in 0..2 {
         coverage.add(&file(1, 7, &[b"x", &track]), 0, 0);
     }
-    assert_eq!(coverage.missing().len(), 36);
-    assert!(coverage.summary().starts_with("long header 2; MTrk in a long header 0; "));
+    assert_eq!(coverage.tally.missing().len(), 36);
+    assert!(coverage.tally.summary().starts_with("long header 2; MTrk in a long header 0; "));
 }

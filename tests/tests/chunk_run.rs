@@ -61,7 +61,9 @@ fn walked_header(file: &[u8], fault: &str) -> Result<usize, Answer> {
     let short = length < if is("a header of 5 taken for one of 6") { 5 } else { 6 };
     let past = length > file.len() - 8;
     let (format, count) = (number_at(file, 8, 2), number_at(file, 10, 2));
-    let (no_count, division) = (count == 0 || format == 0 && count != 1, number_at(file, 12, 2));
+    let no_count = count == 0 || format == 0 && count != 1;
+    let film = [0xE2, 0xE3, 0xE7, 0xE8].contains(&file[12]) && file[13] > 0;
+    let pulses = (1..=32_767).contains(&number_at(file, 12, 2));
     let past_answer = match fault {
         "3 for a header past the end" => (3, 4),
         "a header past the end at 4" => (2, 4),
@@ -73,7 +75,7 @@ fn walked_header(file: &[u8], fault: &str) -> Result<usize, Answer> {
         (past && !is("format before the header's end"), past_answer),
         (format > 2, (3, 8)),
         (no_count, (3, 10)),
-        (division == 0 || division > 32_767, (3, 12)),
+        (!film && !pulses, (3, 12)),
         (past, (2, 0)),
     ] {
         if bad {

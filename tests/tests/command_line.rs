@@ -56,6 +56,41 @@ fn streams() {
     assert_eq!(told(&["fold", "-", "-"], &two), good(&one_track("60 FF 2F 00")));
 }
 
+/// Every verb on a file timed in 25 frames of 40 ticks, and on one of 26 frames.
+#[test]
+fn film_divisions() {
+    let mut file = ended("00 90 3C 40 60 90 3C 00");
+    file[12..14].copy_from_slice(&hex("E7 28"));
+    let short = [
+        &hex("4D546864 00000006 0000 0001 E728 4D54726B 0000000B")[..],
+        &hex("00 90 3C 40 60 3C 00 00 FF 2F 00"),
+    ]
+    .concat();
+    let text = b"0, 0, Header, 0, 1, -6360\n1, 0, Start_track\n1, 0, Note_on_c, 0, 60, 64\n\
+        1, 96, Note_on_c, 0, 60, 0\n1, 96, End_track\n0, 0, End_of_file\n";
+    let sheet = String::from_utf8_lossy(text).replace(", ", ",");
+    let good = |made: &[u8]| (0, made.to_vec(), String::new());
+    assert_eq!(told(&["check"], &file), good(b""));
+    assert_eq!(told(&["to-text"], &file), good(text));
+    assert_eq!(told(&["to-midi"], text), good(&short));
+    assert_eq!(told(&["to-midi", "-x"], text), good(&file));
+    assert_eq!(told(&["tidy"], &file), good(&short));
+    assert_eq!(told(&["fold"], &file), good(&short));
+    assert_eq!(told(&["list"], &file), good(b"1, 96, 3\n"));
+    assert_eq!(told(&["to-sheet"], &file), good(sheet.as_bytes()));
+    assert_eq!(told(&["from-sheet", "-x"], sheet.as_bytes()), good(&file));
+    file[12] = 0xE6;
+    for verb in ["check", "to-text", "tidy", "fold", "list", "to-sheet"] {
+        let message = "-: refused 3 at byte 12\n".to_owned();
+        assert_eq!(told(&[verb], &file), (1, vec![], message), "{verb}");
+    }
+    let bad = sheet.replace("-6360", "59176");
+    for verb in ["to-midi", "from-sheet"] {
+        let message = "-: refused 25 at line 1\n".to_owned();
+        assert_eq!(told(&[verb], bad.as_bytes()), (1, vec![], message), "{verb}");
+    }
+}
+
 #[test]
 fn files_and_messages() {
     let (bad, out) = (scratch("bad.mid"), scratch("out.csv"));

@@ -5,31 +5,42 @@ mod common;
 
 use common::{folded, tidied, to_file, to_text};
 use second::operations::{check, list_tracks};
-use second::outside::{expected, expected_fold, has_film_division, outside_files as files};
+use second::outside::{
+    expected, expected_back, expected_fold, has_film_division, outside_files as files,
+};
+use second::piece::Division;
 use second::read_file::read_file;
 use second::refusal::Answer;
 
 #[test]
-fn all_files_are_there() {
+fn all_files_are_there_and_good() {
     let files = files();
     assert_eq!(files.len(), 36);
     assert_eq!(files.iter().filter(|(name, _)| has_film_division(name)).count(), 3);
+    files.iter().for_each(|(name, file)| assert_eq!(check(file), Answer::success(0), "{name}"));
 }
 
+/// Their names tell frames and ticks; but for these they are a file that csvmidi wrote, and
+/// so come back as they were in manner 1.
 #[test]
-fn film_divisions_are_refused() {
-    for (name, file) in files() {
-        let answer = match has_film_division(&name) {
-            true => Answer { number: 3, place: 12, length: 0 },
-            false => Answer::success(0),
-        };
-        assert_eq!(check(&file), answer, "{name}");
-    }
+fn film_divisions_are_those_of_the_names() {
+    let of_csvmidi = expected("gen-csvmidi__own_allkinds", "short.mid");
+    let film = files().into_iter().filter(|(name, _)| has_film_division(name));
+    let divisions = film.map(|(name, file)| {
+        assert_eq!(file[..12], of_csvmidi[..12], "{name}");
+        assert_eq!(file[14..], of_csvmidi[14..], "{name}");
+        assert_eq!(expected_back(&name, "short.mid"), file, "{name}");
+        (name, read_file(&file).unwrap().division)
+    });
+    let frames = |rate, ticks| Division::Frames { rate, ticks };
+    let due = [("25x40", frames(25, 40)), ("29x4", frames(29, 4)), ("30x80", frames(30, 80))];
+    let due = due.map(|(word, division)| (format!("gen-csvmidi__own_smpte{word}"), division));
+    assert_eq!(divisions.collect::<Vec<_>>(), due);
 }
 
 #[test]
 fn texts_are_those_of_midicsv() {
-    for (name, file) in files().iter().filter(|(name, _)| !has_film_division(name)) {
+    for (name, file) in &files() {
         let text = to_text(file).unwrap();
         assert!(text == expected(name, "csv"), "{name}");
         assert!(text.len() <= 25 * file.len(), "{name}");
@@ -38,11 +49,11 @@ fn texts_are_those_of_midicsv() {
 
 #[test]
 fn files_are_those_of_csvmidi() {
-    for (name, file) in files().iter().filter(|(name, _)| !has_film_division(name)) {
+    for (name, file) in &files() {
         let text = expected(name, "csv");
-        let short = expected(name, "short.mid");
+        let short = expected_back(name, "short.mid");
         assert!(to_file(&text, 1).unwrap() == short, "{name}, manner 1");
-        assert!(to_file(&text, 0).unwrap() == expected(name, "full.mid"), "{name}, manner 0");
+        assert!(to_file(&text, 0).unwrap() == expected_back(name, "full.mid"), "{name}, manner 0");
         assert!(tidied(file).unwrap() == short, "{name}, tidied");
     }
 }
@@ -65,10 +76,11 @@ fn folds_are_those_of_mido() {
 
 #[test]
 fn both_manners_read_back_as_the_same_piece() {
-    for (name, file) in files().iter().filter(|(name, _)| !has_film_division(name)) {
+    for (name, file) in &files() {
         let piece = read_file(file).unwrap();
         for ending in ["short.mid", "full.mid"] {
-            assert!(read_file(&expected(name, ending)).as_ref() == Ok(&piece), "{name}.{ending}");
+            let back = read_file(&expected_back(name, ending));
+            assert!(back.as_ref() == Ok(&piece), "{name}.{ending}");
         }
         let (mut times, mut counts) = ([0; 64], [0; 64]);
         let answer = list_tracks(file, &mut times, &mut counts);

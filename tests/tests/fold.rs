@@ -157,6 +157,18 @@ fn a_whole_file() {
     assert_eq!(folded(&file), Ok(due));
 }
 
+/// The same timed in 29 frames of 4 ticks; how long a tick is does not count.
+#[test]
+fn frames_are_kept() {
+    let file = hex("4D546864 00000006 0001 0002 E304
+                    4D54726B 0000000B 00FF510307A120 00FF2F00
+                    4D54726B 0000000C 00903C40 8360 3C00 00FF2F00");
+    let due = hex("4D546864 00000006 0000 0001 E304
+                   4D54726B 00000013 00FF510307A120 00903C40 8360 3C00 00FF2F00");
+    assert_eq!(folded(&file), Ok(due.clone()));
+    assert_eq!(folded(&due), Ok(due.clone()), "format 0");
+}
+
 #[test]
 fn one_track_alone_is_tidied() {
     let body = "80 00 90 3C 40  60 90 3C 00  00 FF 21 01 05  00 FF 20 01 0A  00 FF 2F 00";

@@ -106,6 +106,24 @@ fn reading_first() -> Vec<Case> {
     ]
 }
 
+/// Frames change nothing of these; only bad ones are refused, and before all of them.
+fn film_divisions() -> Vec<Case> {
+    let divided = |mut file: Vec<u8>, division: &str| {
+        file[12..14].copy_from_slice(&hex(division));
+        file
+    };
+    vec![
+        ("frames, format 2", divided(tracks(2, &[END, END]), "E7 28"), 9, 32, 8),
+        ("frames, 65 tracks", divided(many_and(1, 64, END), "E3 04"), 65, 31, 10),
+        ("frames, no row", divided(tracks(1, &[END]), "E2 FF"), 0, 37, 10),
+        ("frames, MIDI_port", divided(tracks(1, &[END, PORT]), "E8 01"), 2, 33, 34),
+        ("26 frames before 32", divided(tracks(2, &[END, END]), "E6 28"), 0, 3, 12),
+        ("0 ticks before 31", divided(many_and(1, 64, END), "E7 00"), 0, 3, 12),
+        ("0 ticks before 37", divided(tracks(1, &[END, END]), "E3 00"), 0, 3, 12),
+        ("23 frames before 33", divided(tracks(1, &[PREFIX, END]), "E9 01"), 2, 3, 12),
+    ]
+}
+
 fn refused((what, file, rows, number, place): &Case) {
     let due = Answer { number: *number, place: *place, length: 0 };
     let mut lent = vec![UNTOUCHED; *rows];
@@ -122,7 +140,8 @@ fn refused((what, file, rows, number, place): &Case) {
 
 #[test]
 fn each_refusal_has_its_number_and_place() {
-    let cases = [format_two(), tracks_and_rows(), prefixes_and_ports(), reading_first()].concat();
+    let of_tracks = [format_two(), tracks_and_rows(), prefixes_and_ports()].concat();
+    let cases = [of_tracks, reading_first(), film_divisions()].concat();
     cases.iter().for_each(refused);
     let met: BTreeSet<u8> = cases.iter().map(|case| case.3).collect();
     assert!([31, 32, 33, 37].iter().all(|number| met.contains(number)), "{met:?}");

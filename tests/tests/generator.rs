@@ -7,6 +7,7 @@ use std::ops::RangeInclusive;
 
 use common::{folded, tidied, to_text};
 use second::chunk_coverage::ChunkCoverage;
+use second::division_coverage::{DivisionCoverage, Given};
 use second::generate::{
     aims, benchmark_file, chunks_among_tracks_file, chunks_round_track_file, damaged_table_case,
     file_case, fold_benchmark_file, limit_cases, manner, many_tracks_case, piece,
@@ -20,6 +21,7 @@ use second::piece::{Event, Format, Kind, Piece, Time};
 use second::read_file::read_file;
 use second::refusal::Answer;
 use second::spelling::shortest;
+use second::tally::Tally;
 use second::write_file::{length_of, write_event};
 
 const CASES: u64 = 20_000;
@@ -84,10 +86,20 @@ fn header_faults_meet_every_place() {
 #[test]
 fn files_meet_every_sort_of_chunks() {
     let met = chunks_of((0..CASES).map(file_case));
-    println!("{CASES} files, seeds 0..{CASES}: {}", met.summary());
-    assert_eq!(met.missing(), [""; 0]);
+    every_sort(&format!("{CASES} files, seeds 0..{CASES}"), &met.tally);
+}
+
+fn every_sort(what: &str, met: &Tally) {
+    println!("{what}: {}", met.summary());
+    assert_eq!(met.missing(), [""; 0], "{what}");
     let (name, count) = met.least();
-    assert!(count >= 10, "{name} only {count} times");
+    assert!(count >= 10, "{what}: {name} only {count} times");
+}
+
+/// Those of `names` that were never met.
+fn never_of<'a>(names: &[&'a str], met: &Tally) -> Vec<&'a str> {
+    let missing = met.missing();
+    names.iter().copied().filter(|name| missing.contains(&name.to_string())).collect()
 }
 
 /// The files of many tracks and of texts are mostly good: they have all sorts that are.
@@ -96,13 +108,8 @@ fn other_files_meet_every_good_sort_of_chunks() {
     let tracks = chunks_of((0..CASES).map(many_tracks_case));
     let sung = chunks_of((0..2_000).map(|seed| sung_file(&mut Rng::new(seed))));
     for (what, met) in [("many tracks", tracks), ("sung", sung)] {
-        println!("{what}: {}", met.summary());
-        let missing = met.missing();
-        let never: Vec<&str> = ChunkCoverage::GOOD
-            .into_iter()
-            .filter(|name| missing.contains(&name.to_string()))
-            .collect();
-        assert_eq!(never, [""; 0], "{what}");
+        println!("{what}: {}", met.tally.summary());
+        assert_eq!(never_of(&ChunkCoverage::GOOD, &met.tally), [""; 0], "{what}");
     }
 }
 
@@ -113,6 +120,39 @@ fn chunks_of(files: impl Iterator<Item = Vec<u8>>) -> ChunkCoverage {
         met.add(&file, answer.number, answer.place);
     }
     met
+}
+
+/// Every sort of division, good and refused.
+#[test]
+fn files_and_texts_meet_every_sort_of_divisions() {
+    let mut files = DivisionCoverage::of(Given::Files);
+    let mut texts = DivisionCoverage::of(Given::Texts);
+    for seed in 0..CASES {
+        let (file, text) = (file_case(seed), text_case(seed));
+        let answer = check(&file);
+        files.add(&file, answer.number, answer.place);
+        let answer = text_to_file(&text, 1, &mut []);
+        // With room enough it would be 0.
+        let number = if answer.number == 14 { 0 } else { answer.number };
+        texts.add(&text, number, answer.place);
+    }
+    every_sort(&format!("{CASES} files, seeds 0..{CASES}"), &files.tally);
+    every_sort(&format!("{CASES} texts, seeds 0..{CASES}"), &texts.tally);
+}
+
+/// The files of many tracks and of texts have all divisions that are good.
+#[test]
+fn other_files_meet_every_good_sort_of_divisions() {
+    let sung = |seed| sung_file(&mut Rng::new(seed));
+    for (what, make) in [("many tracks", many_tracks_case as fn(u64) -> Vec<u8>), ("sung", sung)] {
+        let mut met = DivisionCoverage::of(Given::Files);
+        for file in (0..2_000).map(make) {
+            let answer = check(&file);
+            met.add(&file, answer.number, answer.place);
+        }
+        println!("{what}: {}", met.tally.summary());
+        assert_eq!(never_of(&DivisionCoverage::GOOD, &met.tally), [""; 0], "{what}");
+    }
 }
 
 /// Half of the spellings have nothing besides the piece.
@@ -315,8 +355,8 @@ fn seeds_give_what_they_gave() {
 }
 
 const PINNED: [u64; 13] = [
-    0x5245_a10a_7a68_6f37, 0x255e_fdf4_429a_07b3, 0x80ca_d4ff_450a_95d7, 0x8e2b_f0b6_0c94_7c34,
-    0x0eef_715d_ac33_2038, 0xdf61_6226_35fd_b5c1, 0x8e35_28a6_a807_e1ee, 0x9139_473f_d04d_ec30,
-    0xf81b_4767_f6fb_1324, 0xa9f0_d65a_e90f_ef86, 0xeb02_e454_8150_0397, 0x94f6_1f21_8b97_91e6,
+    0xe934_9adb_c8b7_e485, 0x9dcb_1ec3_54fa_e190, 0x80ca_d4ff_450a_95d7, 0x8e2b_f0b6_0c94_7c34,
+    0xe033_da70_f5c4_6c56, 0xad6d_63cd_359b_c2f5, 0x8e35_28a6_a807_e1ee, 0xca3c_70dc_6607_529d,
+    0xf81b_4767_f6fb_1324, 0x3323_4419_3435_bbb6, 0x343b_1c85_3756_3bab, 0x94f6_1f21_8b97_91e6,
     0x5b1f_3d85_81de_8294,
 ];

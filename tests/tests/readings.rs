@@ -66,6 +66,21 @@ fn values_of_events() {
     assert_eq!(check(&ended("00 FF 51 03 00 00 00")), refusal(11, 22));
 }
 
+/// Wish 6: E7 28 is 25 frames a second of 40 ticks each.
+#[test]
+fn a_film_division_both_ways() {
+    let mut file = hex(EXAMPLE);
+    file[12..14].copy_from_slice(&hex("E7 28"));
+    let text = EXAMPLE_TEXT.replace(", 96\n1, 0, Start", ", -6360\n1, 0, Start");
+    assert_ne!(text, EXAMPLE_TEXT);
+    assert_eq!(shown(to_text(&file)), text);
+    assert_eq!(midi2csv(&file), text.as_bytes());
+    assert_eq!(to_file(text.as_bytes(), 1), Ok(file.clone()));
+    let full = to_file(text.as_bytes(), 0).unwrap();
+    assert_eq!(full[12..14], hex("E7 28"));
+    assert_eq!(shown(to_text(&full)), text);
+}
+
 #[test]
 fn greatest_time() {
     let fits = one_track(&format!("{} 0F FF 2F 00", far(16)));

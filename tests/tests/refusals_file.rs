@@ -56,13 +56,37 @@ fn sizes_and_headers() -> Vec<Case> {
         ("format 0 with two tracks", changed(&[(11, 2)]), 3, 10),
         ("format 0 with 257 tracks", changed(&[(10, 1)]), 3, 10),
         ("division 0", changed(&[(13, 0)]), 3, 12),
-        ("division 32768", changed(&[(12, 0x80), (13, 0)]), 3, 12),
-        ("film division", changed(&[(12, 0xE7), (13, 0x28)]), 3, 12),
         ("tag before length", changed(&[(0, 0), (7, 5)]), 3, 0),
         ("length before format", changed(&[(7, 5), (9, 3)]), 3, 4),
         ("format before count", changed(&[(9, 3), (11, 0)]), 3, 8),
         ("count before division", changed(&[(11, 0), (13, 0)]), 3, 10),
         ("division before the track's length", changed(&[(13, 0), (18, 1)]), 3, 12),
+        ("count before frames", changed(&[(11, 0), (12, 0xE6)]), 3, 10),
+        ("ticks before the track's length", changed(&[(12, 0xE7), (13, 0), (18, 1)]), 3, 12),
+    ]
+}
+
+/// Of neither kind: rates beside those permitted, the least and the greatest, and 0 ticks.
+fn divisions() -> Vec<Case> {
+    let divided = |high, low| changed(&[(12, high), (13, low)]);
+    vec![
+        ("32768", divided(0x80, 0x00), 3, 12),
+        ("128 frames", divided(0x80, 0x28), 3, 12),
+        ("127 frames", divided(0x81, 0xFF), 3, 12),
+        ("the low byte negative too", divided(0x80, 0xE7), 3, 12),
+        ("31 frames", divided(0xE1, 0xFF), 3, 12),
+        ("30 frames of 0 ticks", divided(0xE2, 0x00), 3, 12),
+        ("29 frames of 0 ticks", divided(0xE3, 0x00), 3, 12),
+        ("28 frames of 0 ticks", divided(0xE4, 0x00), 3, 12),
+        ("28 frames", divided(0xE4, 0x01), 3, 12),
+        ("27 frames", divided(0xE5, 0x28), 3, 12),
+        ("26 frames", divided(0xE6, 0xFF), 3, 12),
+        ("25 frames of 0 ticks", divided(0xE7, 0x00), 3, 12),
+        ("24 frames of 0 ticks", divided(0xE8, 0x00), 3, 12),
+        ("23 frames of 0 ticks", divided(0xE9, 0x00), 3, 12),
+        ("23 frames", divided(0xE9, 0x01), 3, 12),
+        ("1 frame", divided(0xFF, 0x01), 3, 12),
+        ("65535", divided(0xFF, 0xFF), 3, 12),
     ]
 }
 
@@ -203,6 +227,7 @@ fn track_ends() -> Vec<Case> {
 fn each_refusal_has_its_number_and_place() {
     let tables = [
         sizes_and_headers(),
+        divisions(),
         chunks(),
         deltas_and_times(),
         statuses(),
@@ -229,7 +254,14 @@ fn what_is_near_a_refusal_is_accepted() {
     accepted("Sequence_number late", &ended("10 90 3C 40 20 FF 00 02 FF FF"));
     accepted("SMPTE_offset late", &ended("10 C0 01 20 FF 54 05 FF FF FF FF 63"));
     accepted("Channel_prefix 255", &ended("00 FF 20 01 FF"));
-    accepted("greatest division", &changed(&[(12, 0x7F), (13, 0xFF)]));
+    accepted("greatest number of pulses", &changed(&[(12, 0x7F), (13, 0xFF)]));
+    accepted("least number of pulses", &changed(&[(12, 0), (13, 1)]));
+    accepted("pulses that would be 25 frames", &changed(&[(12, 25), (13, 40)]));
+    for frames in [0xE8, 0xE7, 0xE3, 0xE2] {
+        for ticks in [1, 40, 255] {
+            accepted("frames", &changed(&[(12, frames), (13, ticks)]));
+        }
+    }
     accepted("key 7 and -7", &ended("00 FF 59 02 07 00 00 FF 59 02 F9 01"));
     accepted("Tempo 1", &ended("00 FF 51 03 00 00 01"));
     accepted(

@@ -127,11 +127,37 @@ fn ranges() -> Vec<Case> {
             "1, 0, Sequencer_specific, 1, \"1\"", "1, 0, Unknown_meta_event, 96, 1, 256",
             "1, 0, Unknown_meta_event, 128, 0", "1, 0, Unknown_meta_event, -1, 0",
             "1, 0, Unknown_meta_event, a, 0", "0, 0, Header, 3, 1, 96", "0, 0, Header, -1, 1, 96",
-            "0, 0, Header, 1, 0, 96", "0, 0, Header, 1, 65536, 96", "0, 0, Header, 1, 1, 0",
-            "0, 0, Header, 1, 1, 32768", "0, 0, Header, 1, 1, -6360", "0, 0, Header, 0, 2, 96",
+            "0, 0, Header, 1, 0, 96", "0, 0, Header, 1, 65536, 96", "0, 0, Header, 0, 2, 96",
             "65536, 0, End_of_file", "0, a, Start_track",
         ],
     )
+}
+
+/// The division of a Header: 25 on its own line, and before 26 on a later one.
+fn divisions() -> Vec<Case> {
+    let bad = [
+        "0", "-0", "32768", "59176", "65535", "65632", "4294967295", "-1", "-216", "-5848",
+        "-5887", "-5888", "-6144", "-6400", "-06400", "-6616", "-6872", "-7128", "-7168", "-7424",
+        "-7680", "-7681", "-7896", "-32728", "-32768", "-32769", "-65440", "-65536", "-71896",
+        "-4294967295", "film", "\"-6360\"", "\"96\"",
+    ];
+    let text = |header: &str| format!("{header}\n1, 0, Start_track\n1, 0, End_track\n");
+    let mut cases: Vec<Case> = bad
+        .iter()
+        .map(|division| (text(&format!("0, 0, Header, 1, 1, {division}")), 25, 1))
+        .collect();
+    cases.extend(thirds(25, &["0, 0, Header, 1, 1, 0", "0, 0, Header, 1, 1, -6400"]));
+    cases.extend(thirds(26, &["0, 0, Header, 1, 1, 96", "0, 0, Header, 1, 1, -6360"]));
+    cases.extend([
+        (text("0, 0, Header, 1, 1, -6360.0"), 22, 1),
+        (text("0, 0, Header, 1, 1, - 6360"), 22, 1),
+        (text("0, 0, Header, 1, 1, +6360"), 22, 1),
+        (text("0, 0, Header, 1, 1, E728"), 22, 1),
+        (text("0, 0, Header, 1, 1, 25, 40"), 24, 1),
+        (text("1, 0, Header, 1, 1, -6400"), 25, 1),
+        (text("1, 0, Header, 1, 1, -6360"), 26, 1),
+    ]);
+    cases
 }
 
 fn types_and_texts() -> Vec<Case> {
@@ -266,6 +292,7 @@ fn each_refusal_has_its_number_and_line() {
         shapes(),
         names_and_counts(),
         ranges(),
+        divisions(),
         types_and_texts(),
         order_within_a_line(),
         order_of_records(),
@@ -294,6 +321,12 @@ fn what_is_near_a_refusal_is_accepted() {
         " \t; x", "", " \t ", "\r", "#\r\r",
     ];
     lines.iter().for_each(|line| accepted(&third(line)));
+    for division in [
+        "1", "32767", "-5889", "-6143", "-6145", "-6360", "-6399", "-7169", "-7423", "-7425",
+        "-7679", "-06360", "-0000006360", "\t-6360 ",
+    ] {
+        accepted(&third("").replace(", 96\n", &format!(", {division}\n")));
+    }
     let whole = third("1, 0, Tempo, 1");
     accepted(whole.trim_end());
     accepted(&format!("{}\r", whole.trim_end()));

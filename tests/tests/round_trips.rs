@@ -5,7 +5,7 @@ mod common;
 use common::{tidied, to_file, to_text};
 use second::generate::{file_case, piece, plain_text, spelling, text_case, varied_text, Rng};
 use second::operations::{check, list_tracks};
-use second::piece::{Event, Kind, Piece, Time};
+use second::piece::{Division, Event, Kind, Piece, Time};
 use second::read_file::read_file;
 use second::read_text::read_text;
 use second::refusal::Answer;
@@ -139,7 +139,7 @@ fn no_layout_with_a_spelling_that_is_not_permitted() {
 #[test]
 fn no_layout_for_a_piece_that_breaks_a_rule() {
     let good = |seed| piece(&mut Rng::new(seed));
-    let breaks: [fn(&mut Piece); 9] = [
+    let breaks: [fn(&mut Piece); 16] = [
         |piece| piece.tracks.clear(),
         |piece| piece.tracks[0].events.clear(),
         |piece| drop(piece.tracks[0].events.pop()),
@@ -147,7 +147,15 @@ fn no_layout_for_a_piece_that_breaks_a_rule() {
         |piece| piece.tracks[0].events.push(end_at(u32::MAX)),
         |piece| piece.tracks[0].events.insert(0, tempo_at(0, 0)),
         |piece| piece.tracks[0].events.insert(0, tempo_at(0, 16_777_216)),
-        |piece| piece.division = second::piece::Division::Pulses(0),
+        |piece| piece.division = Division::Pulses(0),
+        // Those of 25 frames of 40 ticks.
+        |piece| piece.division = Division::Pulses(0xE728),
+        |piece| piece.division = Division::Pulses(32_768),
+        |piece| piece.division = Division::Frames { rate: 25, ticks: 0 },
+        |piece| piece.division = Division::Frames { rate: 26, ticks: 40 },
+        |piece| piece.division = Division::Frames { rate: 0, ticks: 40 },
+        |piece| piece.division = Division::Frames { rate: 231, ticks: 40 },
+        |piece| piece.division = Division::Frames { rate: 128, ticks: 1 },
         |piece| {
             piece.tracks[0].events.insert(0, tempo_at(4_000_000_000, 1));
             piece.tracks[0].events.insert(0, tempo_at(4_000_000_001, 1));

@@ -2,12 +2,13 @@
 
 mod common;
 
-use common::{ended, hex, shown, to_sheet};
+use common::{ended, hex, shown, to_file, to_sheet};
 use second::generate::{file_case, sheet_text_files};
 use second::operations::check;
 use second::read_file::read_file;
 use second::refusal::Answer;
 use second::sheet::{cell_of, file_to_sheet, sheet_of, words};
+use second::table::table_text;
 
 fn cell(text: &str) -> String {
     String::from_utf8(cell_of(text.as_bytes())).unwrap()
@@ -153,6 +154,23 @@ fn rows() {
     let start = "0,0,Header,0,1,96\n1,0,Start_track\n";
     let end = "1,0,End_track\n0,0,End_of_file\n";
     assert_eq!(shown(to_sheet(&ended(events))), [start, due, end].concat());
+}
+
+/// Signed as in the text, and bare: a spreadsheet takes it for the number that it is.
+#[test]
+fn film_divisions() {
+    for (division, row) in
+        [("E8 01", "-6143"), ("E7 28", "-6360"), ("E3 04", "-7420"), ("E2 FF", "-7425")]
+    {
+        let mut file = ended("");
+        file[12..14].copy_from_slice(&hex(division));
+        let rest = "1,0,Start_track\n1,0,End_track\n0,0,End_of_file\n";
+        let sheet = format!("0,0,Header,0,1,{row}\n{rest}");
+        assert_eq!(shown(to_sheet(&file)), sheet);
+        for saved in [sheet.clone(), sheet.replace(',', ";"), sheet.replace(',', "\t")] {
+            assert_eq!(to_file(&table_text(saved.as_bytes()), 1), Ok(file.clone()), "{saved}");
+        }
+    }
 }
 
 /// 1 to 13 as check has them, then 14 with the length needed, then 0 with the length.

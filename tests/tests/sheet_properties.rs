@@ -11,7 +11,7 @@ use second::generate::{
     saved_in, saved_piece, sheet_text_files, short_table, short_tables, sung_file, sung_piece,
     text_case, typed, varied_text, Padding, Rng, Way, Whole,
 };
-use second::outside::{expected, has_film_division, kept, outside_files};
+use second::outside::{expected, kept, outside_files};
 use second::piece::{Kind, Piece};
 use second::read_file::read_file;
 use second::read_text::read_text;
@@ -190,7 +190,7 @@ fn texts_keep_their_pieces() {
     aimed.iter().for_each(|aim| look(&aim.text(&mut Rng::new(1)).text));
     for (name, _) in outside_files() {
         let text = expected(&name, "csv");
-        assert_eq!(read_text(&text).is_err(), has_film_division(&name));
+        assert!(read_text(&text).is_ok(), "{name}");
         look(&text);
     }
     kept("texts").iter().for_each(|text| look(text));

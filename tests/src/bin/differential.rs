@@ -1,9 +1,9 @@
 //! differential [CASES [FIRST_SEED [OPERATION]]]: the proved archive against the second
 //! program, in all operations or in one. Exit 0 when all answers are the same, every
 //! number, room, manner and aim due was met and no other number, the generated files and
-//! texts held all that is due, every sort of header and chunks was met, outside files,
-//! texts and tables are converted and folded as they must be, and what is converted forth
-//! and back is as it was. With fewer cases than `CASES` what was never met is said, but is
+//! texts held all that is due, every sort of header and chunks and of division was met,
+//! outside files, texts and tables are converted and folded as they must be, and what is
+//! converted forth and back is as it was. With fewer cases than `CASES` what was never met is said, but is
 //! no fault.
 
 use std::env;
@@ -11,6 +11,8 @@ use std::process::ExitCode;
 
 use second::archive;
 use second::compare::Operation;
+use second::division_coverage::Given;
+use second::every_division;
 use second::fold;
 use second::generate::{
     aims, benchmark_file, damaged_table, damaged_table_case, file_case, fold_limit_cases,
@@ -19,9 +21,7 @@ use second::generate::{
     small_benchmark_file, sung_file, table_limit_cases, text_case, text_limit_cases, Rng,
 };
 use second::operations;
-use second::outside::{
-    expected, expected_fold, has_film_division, kept, outside_files, saved_tables,
-};
+use second::outside::{expected, expected_back, expected_fold, kept, outside_files, saved_tables};
 use second::read_file::read_file;
 use second::read_text::read_text;
 use second::refusal::Answer;
@@ -94,19 +94,22 @@ type Part = (&'static Operation, fn(cases: u64, first: u64, few: bool) -> Vec<bo
 
 const PARTS: [Part; 7] = [
     (&CHECK, |cases, first, few| {
-        vec![on_files(Run::of(&CHECK).of_few(few), &read(), cases, first)]
+        let run = of_files(Run::of(&CHECK).of_few(few), |_| Vec::new());
+        vec![on_files(run, &read(), cases, first)]
     }),
     (&TIDY, |cases, first, few| {
         // Not 29: a file that is read has at most 1,048,576 bytes, and manner 1 takes no
         // more bytes than the spelling it had. So 29 counts as a fault here.
+        let run = of_files(Run::of(&TIDY).of_few(few), every_division::short_file);
         vec![
-            on_files(Run::of(&TIDY).of_few(few), &written(), cases / 2, first),
+            on_files(run, &written(), cases / 2, first),
             outside_tidied(),
             tidied_twice(cases / 10, first),
         ]
     }),
     (&TEXT, |cases, first, few| {
         let run = Run::holding(&TEXT, read_file).of_few(few);
+        let run = of_files(run, every_division::text);
         vec![on_files(run, &written(), cases / 4, first), outside_texts()]
     }),
     (&FILE, |cases, first, few| {
@@ -118,13 +121,13 @@ const PARTS: [Part; 7] = [
         ]
     }),
     (&FOLD, |cases, first, few| {
-        vec![
-            on_tracks(Run::of(&FOLD).of_few(few), cases / 4, first),
-            outside_folded(),
-            folded_twice(cases / 10, first),
-        ]
+        let run = of_files(Run::of(&FOLD).of_few(few), every_division::folded_file);
+        vec![on_tracks(run, cases / 4, first), outside_folded(), folded_twice(cases / 10, first)]
     }),
-    (&SHEET, |cases, first, few| vec![on_sung(Run::of(&SHEET).of_few(few), cases / 16, first)]),
+    (&SHEET, |cases, first, few| {
+        let run = of_files(Run::of(&SHEET).of_few(few), every_division::sheet);
+        vec![on_sung(run, cases / 16, first)]
+    }),
     (&TABLE, |cases, first, few| {
         vec![
             on_tables(Run::of(&TABLE).of_few(few), cases / 8, first),
@@ -175,9 +178,16 @@ fn words_given() -> Option<(u64, u64, Option<String>)> {
     first.checked_add(cases).filter(|_| cases >= LEAST).map(|_| (cases, first, only))
 }
 
+/// A run of an operation that takes a file, begun with the file of every division, of which
+/// the operation makes this.
+fn of_files(run: Run, made: fn(u16) -> Vec<u8>) -> Run {
+    let mut run = run.of_chunks().of_divisions(Given::Files);
+    run.known("divisions", every_division::files(made));
+    run
+}
+
 /// Compares an operation that takes a file; `due` are the numbers to be met.
-fn on_files(run: Run, due: &[u8], cases: u64, first: u64) -> bool {
-    let mut run = run.of_chunks();
+fn on_files(mut run: Run, due: &[u8], cases: u64, first: u64) -> bool {
     file_sources(&mut run, cases, first);
     run.report(due)
 }
@@ -199,8 +209,7 @@ fn file_sources(run: &mut Run, cases: u64, first: u64) {
 }
 
 /// Compares fold: on files made for it, and on the same as the others.
-fn on_tracks(run: Run, cases: u64, first: u64) -> bool {
-    let mut run = run.of_chunks();
+fn on_tracks(mut run: Run, cases: u64, first: u64) -> bool {
     run.source("many tracks", first..first + cases, many_tracks_case);
     run.file_limits("fold limits", &fold_limit_cases());
     file_sources(&mut run, cases / 2, first);
@@ -209,9 +218,8 @@ fn on_tracks(run: Run, cases: u64, first: u64) -> bool {
 }
 
 /// Compares file_to_sheet: on files of texts, and on the same as the others.
-fn on_sung(run: Run, cases: u64, first: u64) -> bool {
+fn on_sung(mut run: Run, cases: u64, first: u64) -> bool {
     const TIMES: u64 = 4;
-    let mut run = run.of_chunks();
     let files = sheet_text_files();
     run.source("texts", 0..TIMES * files.len() as u64, |seed| {
         files[(seed / TIMES) as usize].clone()
@@ -258,11 +266,13 @@ fn on_tables(mut run: Run, cases: u64, first: u64) -> bool {
 }
 
 /// Compares text_to_file.
-fn on_texts(mut run: Run, cases: u64, first: u64) -> bool {
+fn on_texts(run: Run, cases: u64, first: u64) -> bool {
+    let mut run = run.of_divisions(Given::Texts);
     let outside: Vec<Vec<u8>> =
         outside_files().iter().map(|(name, _)| expected(name, "csv")).collect();
     let long = made(archive::file_to_text, &benchmark_file()).expect("the benchmark's text");
 
+    run.known("divisions", every_division::texts());
     run.source(GENERATED, first..first + cases, text_case);
     run.aimed("aimed", first..first + cases, &aims());
     run.limits("limits", &text_limit_cases());
@@ -288,25 +298,19 @@ fn on_kept(run: &mut Run, kind: &str) {
 /// Outside files tidy to what csvmidi makes of their text, whatever their
 /// spelling: as found, in manner 0, and in manner 1, which so tidies to itself.
 fn outside_tidied() -> bool {
-    let (mut files, mut films, mut faults) = (0, 0, 0);
+    let (mut files, mut faults) = (0, 0);
     for (name, file) in outside_files() {
-        let (spellings, due) = if has_film_division(&name) {
-            films += 1;
-            (vec![file], Err(Answer { number: 3, place: 12, length: 0 }))
-        } else {
-            files += 1;
-            let short = expected(&name, "short.mid");
-            (vec![file, expected(&name, "full.mid"), short.clone()], Ok(short))
-        };
-        for (index, spelling) in spellings.iter().enumerate() {
-            if tidied(spelling) != due {
+        files += 1;
+        let short = expected_back(&name, "short.mid");
+        for spelling in [&file, &expected_back(&name, "full.mid"), &short] {
+            if tidied(spelling).as_ref() != Ok(&short) {
                 faults += 1;
-                println!("FAULT: outside file {name}, spelling {index}, is tidied wrongly");
+                println!("FAULT: outside file {name}, in some spelling, is tidied wrongly");
             }
         }
     }
-    println!("tidy: {files} outside files in 3 spellings, {films} refused, {faults} faults");
-    faults == 0
+    println!("tidy: {files} outside files in 3 spellings, {faults} faults");
+    faults == 0 && files > 0
 }
 
 /// What the archive tidies it tidies to itself.
@@ -328,46 +332,36 @@ fn tidied_twice(cases: u64, first: u64) -> bool {
 /// Outside files have the text that midicsv makes of them, in exact room and in
 /// room that is always enough.
 fn outside_texts() -> bool {
-    let (mut files, mut films, mut faults) = (0, 0, 0);
+    let (mut files, mut faults) = (0, 0);
     for (name, file) in outside_files() {
-        let due = if has_film_division(&name) {
-            films += 1;
-            Err(Answer { number: 3, place: 12, length: 0 })
-        } else {
-            files += 1;
-            Ok(expected(&name, "csv"))
-        };
+        files += 1;
+        let due = Ok(expected(&name, "csv"));
         let enough = (TEXT.enough)(file.len());
         if made(archive::file_to_text, &file) != due || made_in(&file, enough) != due {
             faults += 1;
             println!("FAULT: outside file {name} has not midicsv's text");
         }
     }
-    println!("file_to_text: {files} outside files in 2 rooms, {films} refused, {faults} faults");
-    faults == 0
+    println!("file_to_text: {files} outside files in 2 rooms, {faults} faults");
+    faults == 0 && files > 0
 }
 
 /// The texts that midicsv made give the files that csvmidi made of them, in both
-/// manners; film divisions are no numbers of the range.
+/// manners.
 fn outside_back() -> bool {
-    let (mut texts, mut films, mut faults) = (0, 0, 0);
+    let (mut texts, mut faults) = (0, 0);
     for (name, _) in outside_files() {
-        let text = expected(&name, "csv");
-        let film = has_film_division(&name);
-        *if film { &mut films } else { &mut texts } += 1;
+        texts += 1;
         for (manner, ending) in [(0, "full.mid"), (1, "short.mid")] {
-            let due = match film {
-                true => Err(Answer { number: 25, place: 1, length: 0 }),
-                false => Ok(expected(&name, ending)),
-            };
-            if filed(&text, manner) != due {
+            let due = Ok(expected_back(&name, ending));
+            if filed(&expected(&name, "csv"), manner) != due {
                 faults += 1;
                 println!("FAULT: outside text {name} has not csvmidi's file in manner {manner}");
             }
         }
     }
-    println!("text_to_file: {texts} outside texts in 2 manners, {films} refused, {faults} faults");
-    faults == 0
+    println!("text_to_file: {texts} outside texts in 2 manners, {faults} faults");
+    faults == 0 && texts > 0
 }
 
 /// Of the archive alone: a good file's text gives the tidied file in manner 1, and in

@@ -62,25 +62,29 @@ fn header(file: &[u8], text: &mut Vec<u8>) -> Result<(u32, usize), Refusal> {
         return refuse(Number::FileCutShort, 0);
     }
     let end = 8 + high_first(&file[4..8]) as usize;
-    let (format, tracks, division) =
-        (high_first(&file[8..10]), high_first(&file[10..12]), high_first(&file[12..14]));
+    let (format, tracks) = (high_first(&file[8..10]), high_first(&file[10..12]));
+    let division = i16::from_be_bytes([file[12], file[13]]);
     let faults = [
         (file[..4] != *b"MThd", Number::Header, 0),
         (end < 14, Number::Header, 4),
         (end > file.len(), Number::FileCutShort, 0),
         (format > 2, Number::Header, 8),
         (tracks == 0 || format == 0 && tracks != 1, Number::Header, 10),
-        (division == 0 || division > 32_767, Number::Header, 12),
+        (!is_division(file[12], file[13]), Number::Header, 12),
     ];
     if let Some((_, number, place)) = faults.into_iter().find(|(fault, ..)| *fault) {
         return refuse(number, place);
     }
-    text.extend_from_slice(b"0, 0, Header");
-    for field in [format, tracks, division] {
-        number_field(text, field);
-    }
-    text.push(b'\n');
+    text.extend_from_slice(format!("0, 0, Header, {format}, {tracks}, {division}\n").as_bytes());
     Ok((tracks, end))
+}
+
+/// Pulses to the quarter note, or ticks to the frame behind 24, 25, 29 or 30 below 0.
+fn is_division(high: u8, low: u8) -> bool {
+    match high {
+        0x00 | 0xE8 | 0xE7 | 0xE3 | 0xE2 => low > 0,
+        _ => high < 0x80,
+    }
 }
 
 fn high_first(bytes: &[u8]) -> u32 {

@@ -1,5 +1,6 @@
 //! Files damaged in their header or in the order and lengths of their chunks.
 
+use super::divisions::no_division;
 use super::raw_file::{RawChunk, RawFile};
 use super::unknown_chunks::{unknown_chunk, unknown_tag};
 use super::Rng;
@@ -44,12 +45,12 @@ pub fn cut_short(rng: &mut Rng, mut file: RawFile) -> Vec<u8> {
 pub fn bad_header(rng: &mut Rng, header: &mut [u8; 14]) {
     // At times two faults, of which the first must decide.
     for _ in 0..rng.between(1, 2) {
-        match rng.below(5) {
+        match rng.below(6) {
             0 => header[rng.index(4)] ^= rng.pick(&[0x20, 0x01, 0x80]),
             1 => header[4 + rng.index(4)] ^= rng.pick(&[1, 3, 8, 128]),
             2 => *pair(header, 8) = rng.pick(&[[0, 3], [1, 0], [255, 255], [2, 0], [0, 0]]),
             3 => *pair(header, 10) = rng.pick(&[[0, 0], [0, 2], [1, 0], [255, 255]]),
-            _ => *pair(header, 12) = rng.pick(&[[0, 0], [128, 0], [0xE7, 40], [255, 255]]),
+            _ => *pair(header, 12) = no_division(rng).to_be_bytes(),
         }
     }
 }

@@ -1,5 +1,6 @@
 //! Damage to the fields of a line: shapes, names, counts, ranges.
 
+use super::divisions::no_division_number;
 use super::text_lines::{Field, Line};
 use super::Rng;
 
@@ -68,6 +69,9 @@ const PAST: [i64; 19] = [
 ];
 
 pub fn out_of_range(rng: &mut Rng, lines: &mut [Line]) {
+    if rng.one_in(3) {
+        return no_division_field(rng, lines);
+    }
     let at = if rng.one_in(8) { 0 } else { rng.index(lines.len()) };
     let line = &mut lines[at];
     let mut index = rng.index(line.len());
@@ -80,4 +84,15 @@ pub fn out_of_range(rng: &mut Rng, lines: &mut [Line]) {
         2 => Field::Quoted(b"Major".to_vec()),
         _ => Field::Number(rng.pick(&PAST)),
     };
+}
+
+/// Only the division of the Header is at fault, if that is where it was.
+fn no_division_field(rng: &mut Rng, lines: &mut [Line]) {
+    if let Some(field) = lines[0].get_mut(5) {
+        *field = match rng.below(8) {
+            0 => Field::Name("SMPTE"),
+            1 => Field::Quoted(b"-6360".to_vec()),
+            _ => Field::Number(no_division_number(rng)),
+        };
+    }
 }

@@ -6,6 +6,7 @@ use crate::piece::{Delta, Division, Event, Format, Kind, Piece, Time, Track};
 use crate::write_file::layout;
 
 use super::damaged_file::mutated_copy;
+use super::divisions::in_either_kind;
 use super::pieces::{kind_of, spelling, KINDS};
 use super::Rng;
 
@@ -45,11 +46,12 @@ pub fn many_tracks_piece(rng: &mut Rng) -> Piece {
         channels: rng.between(1, 3),
         prefixes: rng.one_in(if count == 1 { 2 } else { 8 }),
     };
-    Piece {
+    let piece = Piece {
         format,
         division: Division::Pulses(rng.pick(&[1, 96, 480, 32_767])),
         tracks: (0..count).map(|_| track(rng, &common)).collect(),
-    }
+    };
+    in_either_kind(rng, piece)
 }
 
 /// What the tracks of a piece have in common.

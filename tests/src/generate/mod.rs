@@ -6,10 +6,11 @@
 //! - `text_case(seed)`: a text likewise, for 21..29; `manner(rng)` gives 30.
 //! - `aims()`: boundaries of texts, each with makers of texts and the answer due.
 //! - `room(rng, needed)`: a size of lent room, now and then too small (14).
-//! - `piece(rng)`, `spelling(rng, piece)`: good pieces and permitted spellings, half of
-//!   them with a longer header or unknown chunks.
-//! - `good_file(rng)`, `plain_file(rng)`: good files, those of the second without unknown
-//!   chunks and with a header of 14 bytes.
+//! - `piece(rng)`, `spelling(rng, piece)`: good pieces, a third of them timed in frames, and
+//!   permitted spellings, half of them with a longer header or unknown chunks;
+//!   `pulse_piece(rng)`: timed in pulses.
+//! - `good_file(rng)`, `plain_file(rng)`: good files, those of the second timed in pulses,
+//!   without unknown chunks and with a header of 14 bytes.
 //! - `varied_text(rng, piece)`: a text of the piece, spelled loosely.
 //! - `many_tracks_case(seed)`: a file of many tracks and few Times, for the fold; many
 //!   seeds together meet 0, 14, 31, 32 and 33.
@@ -33,6 +34,7 @@ mod chunk_limits;
 mod damaged_chunks;
 mod damaged_file;
 mod damaged_text;
+mod divisions;
 mod field_damage;
 mod fold_limits;
 mod large;
@@ -59,7 +61,7 @@ pub use damaged_file::mutated_copy;
 pub use damaged_text::mutated_text;
 pub use fold_limits::fold_limit_cases;
 pub use many_tracks::{many_tracks_case, many_tracks_piece};
-pub use pieces::{kind_of, piece, plain_spelling, spelling, KINDS};
+pub use pieces::{kind_of, piece, plain_spelling, pulse_piece, spelling, KINDS};
 pub use rng::Rng;
 pub use saving::{opened, saved, saved_in, typed, Cell, Padding, Row, Way, Whole};
 pub use sheet_texts::{sheet_text_files, sung_file, sung_piece};
@@ -112,20 +114,22 @@ pub fn text_case(seed: u64) -> Vec<u8> {
 
 /// A file that is accepted: a random piece in a random permitted spelling.
 pub fn good_file(rng: &mut Rng) -> Vec<u8> {
-    good_file_in(rng, spelling)
-}
-
-/// One without unknown chunks, in a header of 14 bytes: for programs that know no others.
-pub fn plain_file(rng: &mut Rng) -> Vec<u8> {
-    good_file_in(rng, plain_spelling)
-}
-
-fn good_file_in(rng: &mut Rng, spelled: fn(&mut Rng, &Piece) -> Spelling) -> Vec<u8> {
     let piece = piece(rng);
+    file_in(rng, &piece, spelling)
+}
+
+/// One timed in pulses, without unknown chunks, in a header of 14 bytes: for programs that
+/// know no others.
+pub fn plain_file(rng: &mut Rng) -> Vec<u8> {
+    let piece = pulse_piece(rng);
+    file_in(rng, &piece, plain_spelling)
+}
+
+fn file_in(rng: &mut Rng, piece: &Piece, spelled: fn(&mut Rng, &Piece) -> Spelling) -> Vec<u8> {
     let made = match rng.below(4) {
-        0 => write_file(&piece, Manner::Short),
-        1 => write_file(&piece, Manner::Full),
-        _ => layout(&piece, &spelled(rng, &piece)),
+        0 => write_file(piece, Manner::Short),
+        1 => write_file(piece, Manner::Full),
+        _ => layout(piece, &spelled(rng, piece)),
     };
     made.expect("a generated piece has a layout")
 }

@@ -6,6 +6,7 @@ use crate::piece::{
 };
 use crate::spelling::{EventSpelling, Spelling};
 
+use super::divisions::in_either_kind;
 use super::unknown_chunks::besides;
 use super::Rng;
 
@@ -13,6 +14,12 @@ use super::Rng;
 pub const KINDS: u64 = 20;
 
 pub fn piece(rng: &mut Rng) -> Piece {
+    let piece = pulse_piece(rng);
+    in_either_kind(rng, piece)
+}
+
+/// One timed in pulses: for programs that do not write files of frames.
+pub fn pulse_piece(rng: &mut Rng) -> Piece {
     let format = rng.pick(&[Format::OneTrack, Format::Together, Format::Together, Format::InTurn]);
     let tracks = match format {
         Format::OneTrack => 1,

@@ -42,7 +42,7 @@ impl Run<'_> {
         }
         unmet.extend(self.aims_unmet());
         unmet.extend(self.not_held());
-        unmet.extend(self.chunks_unmet());
+        unmet.extend(self.sorts_unmet());
         let cases: u64 = self.sources.iter().map(|source| source.cases).sum();
         println!("{name}: {cases} cases, {} differences", self.differences);
         println!("{name}: never met: {missing:?} {unmet:?}, met but not due: {undue:?}");
@@ -142,15 +142,19 @@ impl Run<'_> {
         missing
     }
 
-    /// Prints how often headers and chunks of each sort were met; those never met.
-    fn chunks_unmet(&self) -> Vec<String> {
-        let Some(chunks) = &self.chunks else {
-            return Vec::new();
-        };
-        let (name, count) = chunks.least();
-        println!("  headers and chunks: {}", chunks.summary());
-        println!("  headers and chunks: each sort at least {count} times ({name})");
-        chunks.missing()
+    /// Prints how often each sort of headers and chunks and of divisions was met; those
+    /// never met.
+    fn sorts_unmet(&self) -> Vec<String> {
+        let chunks = self.chunks.iter().map(|chunks| ("headers and chunks", &chunks.tally));
+        let divisions = self.divisions.iter().map(|divisions| ("divisions", &divisions.tally));
+        let mut missing = Vec::new();
+        for (what, tally) in chunks.chain(divisions) {
+            let (name, count) = tally.least();
+            println!("  {what}: {}", tally.summary());
+            println!("  {what}: each sort at least {count} times ({name})");
+            missing.extend(tally.missing());
+        }
+        missing
     }
 
     fn row(&self, title: &str, cell: impl Fn(&Source) -> String) {

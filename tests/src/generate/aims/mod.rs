@@ -5,6 +5,7 @@
 //! at a place in the order, ..). Its texts are good but for that, of a random piece,
 //! spelled plainly or loosely; after the fault that decides anything may follow.
 
+mod divisions;
 mod ends;
 mod order;
 mod records;
@@ -76,10 +77,9 @@ enum Made {
 
 /// All aims, always in the same order.
 pub fn aims() -> Vec<Aim> {
-    [shapes::aims(), records::aims(), order::aims(), times::aims(), ends::aims()]
-        .into_iter()
-        .flatten()
-        .collect()
+    let subjects =
+        [shapes::aims, records::aims, order::aims, divisions::aims, times::aims, ends::aims];
+    subjects.into_iter().flat_map(|aims| aims()).collect()
 }
 
 /// Lines that end at End_of_file, or at a fault and what follows it.
