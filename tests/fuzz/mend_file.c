@@ -75,6 +75,20 @@ static int end_track(struct input *file, size_t place, int with_event)
     return 1;
 }
 
+/* One below 0 becomes frames, 0 pulses. */
+static void mend_division(uint8_t *field)
+{
+    static const uint8_t rates[] = { 0xE8, 0xE7, 0xE3, 0xE2 };
+
+    if (field[0] < 0x80) {
+        put(field, 2, 96);
+        return;
+    }
+    field[0] = rates[field[0] % sizeof rates];
+    if (field[1] == 0)
+        field[1] = 40;
+}
+
 static int mend_header(struct input *file, size_t place)
 {
     uint8_t *field = file->bytes + place;
@@ -93,7 +107,7 @@ static int mend_header(struct input *file, size_t place)
         put(field, 2, 1);
         return 1;
     default:
-        put(field, 2, get(field, 2) % 0x8000 == 0 ? 96 : get(field, 2) % 0x8000);
+        mend_division(field);
         return 1;
     }
 }

@@ -214,7 +214,7 @@ fn generated(given: Given) -> (Operation, Vec<u8>, Vec<(Vec<u8>, Answer)>) {
         (input, Answer { number, ..answer })
     };
     // Those near a limit take long, and are not needed for any sort.
-    let inputs = (0..20_000).map(make).filter(|input| input.len() < 100_000);
+    let inputs = (0..10_000).map(make).filter(|input| input.len() < 100_000);
     let inputs = inputs.map(answered).collect();
     (operation, due, inputs)
 }
