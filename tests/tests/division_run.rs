@@ -163,7 +163,7 @@ macro_rules! reads {
     };
 }
 
-const TEXT_FAULTS: [(&str, Second); 15] = [
+const TEXT_FAULTS: [(&str, Second); 16] = [
     ("59176 taken", reads!(|number| if number > 32_767 { number - 65_536 } else { number })),
     ("-65440 taken", reads!(|number| if number < -32_768 { number + 65_536 } else { number })),
     ("only the lowest 16 bits", reads!(|number| i64::from(number as i16))),
@@ -182,6 +182,7 @@ const TEXT_FAULTS: [(&str, Second); 15] = [
         Answer { number: if answer.number == 25 { 22 } else { answer.number }, ..answer }
     }),
     ("manner 1 for manner 0", |text, _, room| text_to_file(text, 1, room)),
+    ("manner 0 for manner 1", |text, _, room| text_to_file(text, 0, room)),
 ];
 
 #[test]
@@ -196,75 +197,63 @@ fn planted_faults_of_texts_are_seen() {
     }
 }
 
-/// Of files or of texts an operation, the numbers due, and generated inputs with answers.
-fn generated(given: Given) -> (Operation, Vec<u8>, Vec<(Vec<u8>, Answer)>) {
-    let (operation, due, make): (_, _, fn(u64) -> Vec<u8>) = match given {
-        Given::Files => {
-            (twice(CHECK, |_| 0), [0, 2, 3].into_iter().chain(5..=13).collect(), file_case)
-        }
-        Given::Texts => {
-            let second: Second = |text, _, room| text_to_file(text, 1, room);
-            (twice(second, |_| 0), [0, 14].into_iter().chain(22..=28).collect(), text_case)
-        }
+/// Generated files or texts, and what a run over them takes.
+struct Generated {
+    given: Given,
+    operation: Operation,
+    /// The numbers due of it.
+    due: Vec<u8>,
+    /// Each with the sorts of division that it meets.
+    inputs: Vec<(Vec<u8>, BTreeSet<String>)>,
+}
+
+fn generated(given: Given) -> Generated {
+    let (second, due, make): (Second, Vec<u8>, fn(u64) -> Vec<u8>) = match given {
+        Given::Files => (CHECK, [0, 2, 3].into_iter().chain(5..=13).collect(), file_case),
+        Given::Texts => (
+            |text, _, room| text_to_file(text, 1, room),
+            [0, 14].into_iter().chain(22..=28).collect(),
+            text_case,
+        ),
     };
-    let answered = |input: Vec<u8>| {
-        let answer = (operation.second)(&input, 1, &mut []);
-        // With room enough it would be 0.
-        let number = if answer.number == 14 { 0 } else { answer.number };
-        (input, Answer { number, ..answer })
+    let with_sorts = |input: Vec<u8>| {
+        let answer = second(&input, 1, &mut []);
+        let mut coverage = DivisionCoverage::of(given);
+        let all = BTreeSet::from_iter(coverage.tally.missing());
+        // With room enough 14 would be 0.
+        coverage.add(&input, if answer.number == 14 { 0 } else { answer.number }, answer.place);
+        let met = &all - &BTreeSet::from_iter(coverage.tally.missing());
+        (input, met)
     };
-    // Those near a limit take long, and are not needed for any sort.
+    // Those near a limit take long, and no sort needs them.
     let inputs = (0..10_000).map(make).filter(|input| input.len() < 100_000);
-    let inputs = inputs.map(answered).collect();
-    (operation, due, inputs)
+    let inputs = inputs.map(with_sorts).collect();
+    Generated { given, operation: twice(second, |_| 0), due, inputs }
+}
+
+impl Generated {
+    /// Over all inputs, as a source of this name, but those that meet a sort.
+    fn run_without(&self, sort: &str, name: &'static str) -> Run<'_> {
+        let inputs = self.inputs.iter().filter(|(_, met)| !met.contains(sort));
+        let inputs: Vec<&Vec<u8>> = inputs.map(|(input, _)| input).collect();
+        let mut run = Run::of(&self.operation).silent().of_divisions(self.given);
+        run.source(name, 0..inputs.len() as u64, |seed| inputs[seed as usize].clone());
+        assert_eq!(run.differences(), 0);
+        run
+    }
 }
 
 #[test]
 fn a_run_misses_what_it_never_met() {
     for given in [Given::Files, Given::Texts] {
-        let (operation, due, inputs) = generated(given);
-        let run_of = |name: &'static str, left_out: &str| {
-            let inputs: Vec<&Vec<u8>> = inputs
-                .iter()
-                .filter(|(input, answer)| !met(given, input, answer).contains(left_out))
-                .map(|(input, _)| input)
-                .collect();
-            let mut run = Run::of(&operation).silent().of_divisions(given);
-            run.source(name, 0..inputs.len() as u64, |seed| inputs[seed as usize].clone());
-            assert_eq!(run.differences(), 0);
-            run
-        };
-        assert!(run_of(GENERATED, "").report(&due));
-        assert!(!run_of("others", "").report(&due), "others do not count");
-        let gap = "29 frames of 0 ticks";
-        assert!(!run_of(GENERATED, gap).report(&due), "a sort was not met");
-        assert!(run_of(GENERATED, gap).of_few(true).report(&due), "few need not meet all");
-    }
-}
-
-/// The sorts that an input meets.
-fn met(given: Given, input: &[u8], answer: &Answer) -> BTreeSet<String> {
-    let mut coverage = DivisionCoverage::of(given);
-    let all = BTreeSet::from_iter(coverage.tally.missing());
-    coverage.add(input, answer.number, answer.place);
-    &all - &BTreeSet::from_iter(coverage.tally.missing())
-}
-
-/// Without the inputs that have one sort, that sort is missed, and no other.
-#[test]
-fn each_gap_is_missed() {
-    for given in [Given::Files, Given::Texts] {
-        let (_, _, inputs) = generated(given);
-        let met: Vec<BTreeSet<String>> =
-            inputs.iter().map(|(input, answer)| met(given, input, answer)).collect();
+        let generated = generated(given);
+        let due = &generated.due;
+        assert!(generated.run_without("", GENERATED).report(due));
+        assert!(!generated.run_without("", "others").report(due), "others do not count");
         for sort in DivisionCoverage::of(given).tally.missing() {
-            let mut coverage = DivisionCoverage::of(given);
-            for ((input, answer), met) in inputs.iter().zip(&met) {
-                if !met.contains(&sort) {
-                    coverage.add(input, answer.number, answer.place);
-                }
-            }
-            assert_eq!(coverage.tally.missing(), [sort]);
+            let run = generated.run_without(&sort, GENERATED);
+            assert!(!run.report(due), "{sort} was not met");
+            assert!(run.of_few(true).report(due), "few need not meet {sort}");
         }
     }
 }
