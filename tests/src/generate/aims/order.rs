@@ -247,6 +247,12 @@ fn headers() -> Vec<Aim> {
             return Made::Cut(lines);
         }
     }));
+    aims.extend(no_numbers());
+    aims
+}
+
+fn no_numbers() -> Vec<Aim> {
+    let mut aims = Vec::new();
     for (index, what) in ["format", "count"].into_iter().enumerate() {
         for field in [Field::Name("a"), Field::Quoted(b"1".to_vec())] {
             aims.push(Aim::new(format!("Header: {what} is {field:?}"), 25, move |rng| {
