@@ -8,12 +8,13 @@ use second::fold::{fold_rows, Row};
 use second::piece::Time;
 
 /// In the order in which fold_main takes them: the file, the bytes of room, the number due.
-const CASES: [(&str, usize, u8); 10] = [
+const CASES: [(&str, usize, u8); 11] = [
     ("two_tracks.mid", 42, 0),
     ("two_tracks.mid", 41, 14),
     ("four_tracks.mid", 48, 0),
     ("one_track.mid", 48, 0),
     ("other_chunks.mid", 48, 0),
+    ("film_division.mid", 48, 0),
     ("after_end_track.mid", 48, 12),
     ("format2.mid", 48, 32),
     ("sixty_five_tracks.mid", 48, 31),

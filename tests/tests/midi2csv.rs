@@ -20,9 +20,10 @@ fn the_example_of_document_01() {
 
 /// In the order in which midi2csv_cases takes them, with what each is refused
 /// with; nothing for those that are not.
-const CASES: [(&str, &str); 8] = [
+const CASES: [(&str, &str); 9] = [
     ("empty.mid", "refused 2 at 0\n"),
     ("film_division.mid", ""),
+    ("rate_26.mid", "refused 3 at 12\n"),
     ("after_end_track.mid", "refused 12 at 39\n"),
     ("other_chunks.mid", ""),
     ("further_track.mid", "refused 13 at 48\n"),

@@ -9,7 +9,7 @@ use Rattle.smf.specs.Example.{examplePiece}
 use Rattle.midicsv.specs.Field.{bytes, digitsOf, decimal, inOctal, escape, escapeAll}
 use Rattle.midicsv.specs.Show.{asText, gap, spellIn, quote, show, further, lineOf}
 use Rattle.midicsv.specs.Table.{eventSpelled, spelled, eventShape, shape}
-use Rattle.midicsv.specs.Record.{columnField, dataFields, tailFields, fieldsOf, recordLine, nameOf, valuesOf}
+use Rattle.midicsv.specs.Record.{signedField, columnField, dataFields, tailFields, fieldsOf, recordLine, nameOf, valuesOf}
 use Rattle.midicsv.specs.Text.{eventRecord, eventRecords, trackRecords, headerRecord, pieceRecords, recordsText, writtenAs, textOf}
 use Rattle.midicsv.specs.Example.{exampleText}
 use Rattle.midicsv.specs.TextReadings.{filmText}
@@ -23,5 +23,5 @@ pub record WrittenExample : Type 0 where
   pub largest : decimal 4294967295 ≡ bytes "4294967295"
 
 pub written-example : WrittenExample
-unfolding writtenAs gap spellIn recordsText pieceRecords headerRecord trackRecords eventRecords eventRecord recordLine lineOf further show quote escapeAll escape inOctal pick decimal digitsOf spelled eventSpelled shape eventShape columnField dataFields tailFields fieldsOf nameOf valuesOf keyByte bits
+unfolding writtenAs gap spellIn recordsText pieceRecords headerRecord trackRecords eventRecords eventRecord recordLine lineOf further show quote escapeAll escape inOctal pick decimal digitsOf spelled eventSpelled shape eventShape signedField columnField dataFields tailFields fieldsOf nameOf valuesOf keyByte bits
 written-example = record { whole = refl; film = refl; octal = refl; zero = refl; ten = refl; largest = refl }

@@ -1,12 +1,12 @@
 -- How long the line of a record can be.
 use mathlib.Core.Path.{_≡_, refl}
-use Prim.Native.Nat.{ℕ, zero, suc, _+_, _-_, _*_, _/_, _≤_}
+use Prim.Native.Nat.{ℕ, zero, suc, _+_, _-_, _*_, _/_, _<_, _≤_}
 use mathlib.Core.List.{List, [], _∷_}
 use mathlib.Core.Logic.{inl, inr}
 use native.Mathlib.Omega.{arith}
 use lib.ListN.{length, length-append}
 use lib.Dec.{ltb, eqb}
-use borrow.Author.Tests.{le-leb, lt-leb, lt-ltb, le-ltb, ltb-false}
+use borrow.Author.Tests.{lt-ltb, le-ltb, ltb-false}
 use Rattle.event.specs.Choice.{pick}
 use Rattle.event.specs.Bytes.{Bytes}
 use Rattle.event.proofs.ChoiceLaws.{by-test}
@@ -18,7 +18,7 @@ use Rattle.midicsv.specs.TruthWords.{truthWords}
 use Rattle.midicsv.specs.Spell.{orOctal, isSolid, standsInside, standsLast, unblanked, listed, isTruth, spellRest, spellShort, spellText}
 use Rattle.midicsv.specs.Show.{Form, asText, asSheet, gap, spellIn, quote, show, further, lineOf}
 use Rattle.midicsv.specs.Table.{RecordName, spelled, Column, range, key, mode, freeType, division, Tail, none, oneText, sized, shape}
-use Rattle.midicsv.specs.Record.{Record, columnField, dataFields, tailFields, fieldsOf, recordLine}
+use Rattle.midicsv.specs.Record.{Record, signedField, columnField, dataFields, tailFields, fieldsOf, recordLine}
 use Rattle.midicsv.proofs.FieldLaws.{digits-most, decimal-length, quote-length}
 use Rattle.midicsv.proofs.RowLaws.{InColumn, InColumns, InTail}
 
@@ -104,16 +104,24 @@ mode-cost : (w : Form) (m : ℕ) → length (show w (columnField mode m)) ≤ 7
 unfolding pick
 mode-cost w m = rw (mode-shown w m) (by-test (eqb m 0) (λ t. rw t (omega arith)) (λ t. rw t (omega arith)))
 
+signed-plus : (w : Form) (first all n : ℕ) → n < first → show w (signedField first all n) ≡ decimal n
+unfolding show signedField pick
+signed-plus w first all n h = rw (lt-ltb n first h) refl
+
+signed-minus : (w : Form) (first all n : ℕ) → first ≤ n → show w (signedField first all n) ≡ 45 ∷ decimal (all - n)
+unfolding show signedField pick
+signed-minus w first all n h = rw (le-ltb n first h) refl
+
 division-cost : (w : Form) (n : ℕ) → EitherKind n → length (show w (columnField division n)) ≤ 5
-unfolding show columnField pick
-division-cost w n (inl h) = rw (le-leb n 32767 (h .1)) (track-cost n (omega arith))
-division-cost w n (inr h) = rw (lt-leb n 32767 (omega arith)) (omega (arith, frames-cost (65536 - n) (omega arith)))
+unfolding columnField
+division-cost w n (inl h) = rw (signed-plus w 32768 65536 n (omega arith)) (track-cost n (omega arith))
+division-cost w n (inr h) = rw (signed-minus w 32768 65536 n (omega arith)) (omega (arith, frames-cost (65536 - n) (omega arith)))
 
 column-cost : (w : Form) (c : Column) (n : ℕ) → InColumn c n → length (show w (columnField c n)) ≤ columnCost c
 unfolding InColumn show columnField columnCost pick
 column-cost w (range lo hi) n h = decimal-mono n hi (h .1)
-column-cost w key b (inl h) = rw (lt-ltb b 8 h) (omega (arith, key-cost b (omega arith)))
-column-cost w key b (inr h) = rw (le-ltb b 8 (omega arith)) (omega (arith, key-cost (256 - b) (omega arith)))
+column-cost w key b (inl h) = rw (signed-plus w 8 256 b h) (omega (arith, key-cost b (omega arith)))
+column-cost w key b (inr h) = rw (signed-minus w 8 256 b (omega arith)) (omega (arith, key-cost (256 - b) (omega arith)))
 column-cost w mode m h = mode-cost w m
 column-cost w freeType t h = byte-cost t (omega arith)
 column-cost w division n h = division-cost w n (division-kinds n h)

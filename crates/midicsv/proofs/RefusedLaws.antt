@@ -17,7 +17,7 @@ use Rattle.midicsv.specs.Record.{Record, Values}
 use Rattle.midicsv.specs.Result.{Result, good, bad, next, test}
 use Rattle.midicsv.specs.ReadField.{isDigit, isLetter, skip, push, readDigits, readNumber, negative, Seen, plain, aQuote, aSlash, octal1, octal2, readQuoted, readName, atComma, finish, fieldOf, readField, onward, readFields, allFields}
 use Rattle.midicsv.specs.Names.{find, nameFrom, allNames}
-use Rattle.midicsv.specs.ReadRecord.{sizeOf, counted, signedBits, readColumn, readBytes, readText, readTail, readColumns, withValues, recordOf, ofFields, readLine}
+use Rattle.midicsv.specs.ReadRecord.{sizeOf, counted, readSigned, readColumn, readBytes, readText, readTail, readColumns, withValues, recordOf, ofFields, readLine}
 use Rattle.midicsv.specs.Lines.{onto, linesOf, trimmed, passedOver}
 use Rattle.midicsv.specs.Order.{State, first, between, inside, finished, takeHeader, takeStart, takeEnd, takeEvent, stepOn, step}
 use Rattle.midicsv.specs.PieceOfText.{Told, skipped, told, framed, tellLine, stepTold, advance, ended, runLines, pieceTold, pieceOfText}
@@ -140,12 +140,12 @@ counted-named k none fs m h = test-named _ 24 _ (omega arith) h
 counted-named k oneText fs m h = test-named _ 24 _ (omega arith) h
 counted-named k sized fs m h = test-named _ 24 _ (omega arith) (next-named _ _ (size-named _) (λ n. test-named _ 24 _ (omega arith) h))
 
-signed-named : (f : Field) → Named (signedBits f)
-unfolding signedBits
-signed-named (num n) = test-named _ 25 _ (omega arith) tt
-signed-named (minus n) = test-named _ 25 _ (omega arith) tt
-signed-named (name s) = omega arith
-signed-named (quoted d) = omega arith
+signed-named : (most least all : ℕ) (f : Field) → Named (readSigned most least all f)
+unfolding readSigned
+signed-named most least all (num n) = test-named _ 25 _ (omega arith) tt
+signed-named most least all (minus n) = test-named _ 25 _ (omega arith) tt
+signed-named most least all (name s) = omega arith
+signed-named most least all (quoted d) = omega arith
 
 column-named : (c : Column) (f : Field) → Named (readColumn c f)
 unfolding readColumn
@@ -153,10 +153,7 @@ column-named (range lo hi) (num n) = test-named _ 25 _ (omega arith) tt
 column-named (range lo hi) (minus n) = omega arith
 column-named (range lo hi) (name s) = omega arith
 column-named (range lo hi) (quoted d) = omega arith
-column-named key (num n) = test-named _ 25 _ (omega arith) tt
-column-named key (minus n) = test-named _ 25 _ (omega arith) tt
-column-named key (name s) = omega arith
-column-named key (quoted d) = omega arith
+column-named key f = signed-named _ _ _ f
 column-named mode (num n) = omega arith
 column-named mode (minus n) = omega arith
 column-named mode (name s) = omega arith
@@ -165,7 +162,7 @@ column-named freeType (num n) = test-named _ 25 _ (omega arith) tt
 column-named freeType (minus n) = omega arith
 column-named freeType (name s) = omega arith
 column-named freeType (quoted d) = omega arith
-column-named division f = next-named _ _ (signed-named f) (λ n. test-named _ 25 _ (omega arith) tt)
+column-named division f = next-named _ _ (signed-named _ _ _ f) (λ n. test-named _ 25 _ (omega arith) tt)
 
 bytes-named : (fs : List Field) → Named (readBytes fs)
 unfolding readBytes

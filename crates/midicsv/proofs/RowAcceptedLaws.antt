@@ -15,7 +15,7 @@ use Rattle.midicsv.specs.Field.{Field, num, minus, name, quoted}
 use Rattle.midicsv.specs.Table.{Column, range, key, mode, freeType, division, Tail, none, oneText, sized}
 use Rattle.midicsv.specs.Record.{Values}
 use Rattle.midicsv.specs.Result.{Result, good}
-use Rattle.midicsv.specs.ReadRecord.{sizeOf, counted, sameBytes, isFree, signedBits, readColumn, readBytes, readText, readTail, readColumns}
+use Rattle.midicsv.specs.ReadRecord.{sizeOf, counted, sameBytes, isFree, readSigned, readColumn, readBytes, readText, readTail, readColumns}
 use Rattle.midicsv.proofs.ResultLaws.{not-good, good-same, next-good, test-good}
 use Rattle.midicsv.proofs.RowLaws.{InColumn, InColumns, InTail}
 use Rattle.midicsv.proofs.FieldPartLaws.{Fine}
@@ -36,6 +36,19 @@ free-back specificKind e = absurd (false≢true e)
 free-back unknownKind e = refl
 
 module _ (k : ℕ) where
+  key-in : (f : Field) (n : ℕ) → Fine k f → readSigned 7 7 256 f ≡ good n → InColumn key n
+  unfolding readSigned InColumn Fine
+  key-in (num m) n g e =
+      let (t, q) = test-good _ 25 _ n e in
+      let h = leb-true m 7 t in
+      rw (← (good-same q)) (inl (omega arith))
+  key-in (minus m) n g e =
+      let (t, q) = test-good _ 25 _ n e in
+      let h = leb-true m 7 t in
+      rw (← (good-same q)) (inr (omega arith))
+  key-in (name s) n g e = not-good e
+  key-in (quoted d) n g e = not-good e
+
   pub column-in : (c : Column) (f : Field) (n : ℕ) → Fine k f → readColumn c f ≡ good n → InColumn c n
   unfolding readColumn InColumn Fine
   column-in (range lo hi) (num m) n g e =
@@ -45,16 +58,7 @@ module _ (k : ℕ) where
   column-in (range lo hi) (minus m) n g e = not-good e
   column-in (range lo hi) (name s) n g e = not-good e
   column-in (range lo hi) (quoted d) n g e = not-good e
-  column-in key (num m) n g e =
-      let (t, q) = test-good _ 25 _ n e in
-      let h = leb-true m 7 t in
-      rw (← (good-same q)) (inl (omega arith))
-  column-in key (minus m) n g e =
-      let (t, q) = test-good _ 25 _ n e in
-      let h = leb-true m 7 t in
-      rw (← (good-same q)) (inr (omega arith))
-  column-in key (name s) n g e = not-good e
-  column-in key (quoted d) n g e = not-good e
+  column-in key f n g e = key-in f n g e
   column-in mode (num m) n g e = not-good e
   column-in mode (minus m) n g e = not-good e
   column-in mode (name s) n g e = not-good e
@@ -69,7 +73,7 @@ module _ (k : ℕ) where
   column-in freeType (name s) n g e = not-good e
   column-in freeType (quoted d) n g e = not-good e
   column-in division f n g e =
-      next-good (signedBits f) _ n e (λ m q z.
+      next-good (readSigned 32767 32768 65536 f) _ n e (λ m q z.
       let (t, w) = test-good _ 25 _ n z in
       rw (← (good-same w)) t)
 

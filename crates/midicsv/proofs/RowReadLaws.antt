@@ -1,23 +1,24 @@
 -- The fields of a row are counted and read back.
 use mathlib.Core.Path.{_≡_, refl, sym, ap, ap₂, _∙_}
-use Prim.Native.Nat.{ℕ, zero, suc, _+_, _-_, _≤_}
+use Prim.Native.Nat.{ℕ, zero, suc, _+_, _-_, _<_, _≤_}
 use mathlib.Core.Bool.{true, _&&_}
 use mathlib.Core.List.{List, [], _∷_}
 use mathlib.Core.Logic.{inl, inr}
 use native.Mathlib.Omega.{arith}
 use lib.ListN.{length, getD}
-use borrow.Author.Tests.{le-leb, lt-leb, lt-ltb, le-ltb, eq-eqb}
+use lib.Dec.{ltb}
+use borrow.Author.Tests.{le-leb, lt-ltb, le-ltb, eq-eqb}
 use Rattle.event.specs.Choice.{pick}
 use Rattle.event.specs.Bytes.{Bytes}
 use Rattle.event.specs.Meta.{MetaKind, kindOf, unknownKind}
-use Rattle.event.proofs.ChoiceLaws.{pick-true, pick-false}
+use Rattle.event.proofs.ChoiceLaws.{pick-true, pick-false, by-test}
 use Rattle.smf.specs.Division.{divisionOk}
-use Rattle.smf.proofs.DivisionLaws.{EitherKind, division-kinds}
+use Rattle.smf.proofs.DivisionLaws.{EitherKind, division-kinds, division-small}
 use Rattle.midicsv.specs.Field.{num, minus}
 use Rattle.midicsv.specs.Table.{Column, range, key, mode, freeType, division, Tail, none, oneText, sized}
-use Rattle.midicsv.specs.Record.{columnField, dataFields, tailFields, fieldsOf}
+use Rattle.midicsv.specs.Record.{signedField, columnField, dataFields, tailFields, fieldsOf}
 use Rattle.midicsv.specs.Result.{Result, good}
-use Rattle.midicsv.specs.ReadRecord.{sizeOf, counted, sameBytes, isFree, signedBits, readColumn, readBytes, readText, readTail, readColumns}
+use Rattle.midicsv.specs.ReadRecord.{sizeOf, counted, sameBytes, isFree, readSigned, readColumn, readBytes, readText, readTail, readColumns}
 use Rattle.midicsv.proofs.RowLaws.{InColumn, InColumns, InTail}
 use Rattle.midicsv.proofs.ResultLaws.{next-eq, test-eq}
 use Rattle.midicsv.proofs.FieldReadLaws.{Good, AllGood}
@@ -44,28 +45,31 @@ pub free-is : (k : MetaKind) → k ≡ unknownKind → isFree k ≡ true
 unfolding isFree
 free-is k e = ap isFree e
 
--- the field of a division's bits, of either kind
-division-read : (n : ℕ) → divisionOk n ≡ true → EitherKind n → readColumn division (columnField division n) ≡ good n
-unfolding readColumn signedBits columnField
-division-read n h (inl k) =
-    rw (pick-true (num n) (minus (65536 - n)) (le-leb n 32767 (k .1))) (next-eq _ (test-eq 25 _ (le-leb n 32767 (k .1))) ∙ test-eq 25 _ h)
-division-read n h (inr k) =
-    let back : 65536 - (65536 - n) ≡ n = omega arith in
-    rw (pick-false (num n) (minus (65536 - n)) (lt-leb n 32767 (omega arith)))
-    (next-eq _ (test-eq 25 _ (le-leb (65536 - n) 32768 (omega arith)) ∙ ap good back) ∙ test-eq 25 _ h)
+-- a number and its field, by its sign
+signed-plus : (most least all first n : ℕ) → n < first → n ≤ most → readSigned most least all (signedField first all n) ≡ good n
+unfolding readSigned signedField
+signed-plus most least all first n h k = rw (pick-true (num n) (minus (all - n)) (lt-ltb n first h)) (test-eq 25 _ (le-leb n most k))
 
-division-good : (n : ℕ) → EitherKind n → Good (columnField division n)
-unfolding columnField Good
-division-good n (inl k) = rw (pick-true (num n) (minus (65536 - n)) (le-leb n 32767 (k .1))) (omega arith)
-division-good n (inr k) = rw (pick-false (num n) (minus (65536 - n)) (lt-leb n 32767 (omega arith))) (omega arith)
+signed-minus : (most least all first n : ℕ) → first ≤ n → n ≤ all → all - n ≤ least → readSigned most least all (signedField first all n) ≡ good n
+unfolding readSigned signedField
+signed-minus most least all first n h k g =
+    let back : all - (all - n) ≡ n = omega arith in
+    rw (pick-false (num n) (minus (all - n)) (le-ltb n first h)) (test-eq 25 _ (le-leb (all - n) least g) ∙ ap good back)
+
+signed-good : (first all n : ℕ) → n < all → all ≤ 4294967295 → Good (signedField first all n)
+unfolding signedField Good pick
+signed-good first all n h k = by-test (ltb n first) (λ t. rw t (omega arith)) (λ t. rw t (omega arith))
+
+division-read : (n : ℕ) → divisionOk n ≡ true → EitherKind n → readColumn division (columnField division n) ≡ good n
+unfolding readColumn columnField
+division-read n h (inl k) = next-eq _ (signed-plus 32767 32768 65536 32768 n (omega arith) (k .1)) ∙ test-eq 25 _ h
+division-read n h (inr k) = next-eq _ (signed-minus 32767 32768 65536 32768 n (omega arith) (omega arith) (omega arith)) ∙ test-eq 25 _ h
 
 pub column-read : (c : Column) (n : ℕ) → InColumn c n → readColumn c (columnField c n) ≡ good n
 unfolding InColumn readColumn columnField
 column-read (range lo hi) n h = number-in lo hi n (h .0) (h .1)
-column-read key b (inl h) = rw (pick-true (num b) (minus (256 - b)) (lt-ltb b 8 h)) (test-eq 25 _ (le-leb b 7 (omega arith)))
-column-read key b (inr h) =
-    let back : 256 - (256 - b) ≡ b = omega arith in
-    rw (pick-false (num b) (minus (256 - b)) (le-ltb b 8 (omega arith))) (test-eq 25 _ (le-leb (256 - b) 7 (omega arith)) ∙ ap good back)
+column-read key b (inl h) = signed-plus 7 7 256 8 b h (omega arith)
+column-read key b (inr h) = signed-minus 7 7 256 8 b (omega arith) (omega arith) (omega arith)
 column-read mode m h = mode-read m h
 column-read freeType t h = test-eq 25 _ (ap₂ _&&_ (le-leb t 127 (h .0)) (free-is (kindOf t) (h .1)))
 column-read division n h = division-read n h (division-kinds n h)
@@ -73,11 +77,11 @@ column-read division n h = division-read n h (division-kinds n h)
 pub column-good : (c : Column) (n : ℕ) → InColumn c n → Good (columnField c n)
 unfolding InColumn columnField Good
 column-good (range lo hi) n h = h .2
-column-good key b (inl h) = rw (pick-true (num b) (minus (256 - b)) (lt-ltb b 8 h)) (omega arith)
-column-good key b (inr h) = rw (pick-false (num b) (minus (256 - b)) (le-ltb b 8 (omega arith))) (omega arith)
+column-good key b (inl h) = signed-good 8 256 b (omega arith) (omega arith)
+column-good key b (inr h) = signed-good 8 256 b (omega arith) (omega arith)
 column-good mode m h = mode-good m h
 column-good freeType t h = omega arith
-column-good division n h = division-good n (division-kinds n h)
+column-good division n h = signed-good 32768 65536 n (division-small n h) (omega arith)
 
 -- ---- the tail
 

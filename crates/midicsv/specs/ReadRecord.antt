@@ -57,24 +57,21 @@ isFree keyKind = false
 isFree specificKind = false
 isFree unknownKind = true
 
--- "the 16 bits read as signed", from the number −32768..32767 that they are
-unfoldable pub signedBits : Field → Result ℕ
-signedBits (num n) = test (leb n 32767) 25 (good n)
-signedBits (minus n) = test (leb n 32768) 25 (good (65536 - n))
-signedBits (name s) = bad 25
-signedBits (quoted d) = bad 25
+-- a number from −least to most; one below 0 is kept as all more, as it is in a file's byte (all is 256) or 16 bits (65536)
+unfoldable pub readSigned : ℕ → ℕ → ℕ → Field → Result ℕ
+readSigned most least all (num n) = test (leb n most) 25 (good n)
+readSigned most least all (minus n) = test (leb n least) 25 (good (all - n))
+readSigned most least all (name s) = bad 25
+readSigned most least all (quoted d) = bad 25
 
--- a number in its range; "−7..7", kept as its byte in the file; "`major` (0) or `minor` (1)"; a type up to 127 without a name;
--- the bits of a division: "25 for the division field, now only where it is of neither kind"
+-- a number in its range; "−7..7", kept as its byte in the file; "`major` (0) or `minor` (1)"; a type up to 127 without a name; "the 16 bits
+-- read as signed", and "25 for the division field, now only where it is of neither kind"
 unfoldable pub readColumn : Column → Field → Result ℕ
 readColumn (range lo hi) (num n) = test (leb lo n && leb n hi) 25 (good n)
 readColumn (range lo hi) (minus n) = bad 25
 readColumn (range lo hi) (name s) = bad 25
 readColumn (range lo hi) (quoted d) = bad 25
-readColumn key (num n) = test (leb n 7) 25 (good n)
-readColumn key (minus n) = test (leb n 7) 25 (good (256 - n))
-readColumn key (name s) = bad 25
-readColumn key (quoted d) = bad 25
+readColumn key f = readSigned 7 7 256 f
 readColumn mode (num n) = bad 25
 readColumn mode (minus n) = bad 25
 readColumn mode (name s) = bad 25
@@ -83,7 +80,7 @@ readColumn freeType (num n) = test (leb n 127 && isFree (kindOf n)) 25 (good n)
 readColumn freeType (minus n) = bad 25
 readColumn freeType (name s) = bad 25
 readColumn freeType (quoted d) = bad 25
-readColumn division f = next (signedBits f) (λ n. test (divisionOk n) 25 (good n))
+readColumn division f = next (readSigned 32767 32768 65536 f) (λ n. test (divisionOk n) 25 (good n))
 
 -- Data: "other data 0..255"
 unfoldable pub readBytes : List Field → Result (List ℕ)

@@ -2,7 +2,7 @@
 use Prim.Native.Nat.{ℕ, _-_}
 use mathlib.Core.List.{List, [], _∷_}
 use lib.ListN.{length}
-use lib.Dec.{leb, ltb, eqb}
+use lib.Dec.{ltb, eqb}
 use Rattle.event.specs.Choice.{pick}
 use Rattle.event.specs.Event.{Kind, noteOff, noteOn, polyAftertouch, control, program, channelAftertouch, pitchBend, systemExclusive, systemExclusivePacket, sequenceNumber, text, channelPrefix, midiPort, endTrack, tempo, smpteOffset, timeSignature, keySignature, sequencerSpecific, unknownMeta}
 use Rattle.event.specs.Frame.{keyByte}
@@ -24,13 +24,17 @@ pub record Record : Type 0 where
 
 -- ---- how a record is written
 
+-- a number from what it is in a file: from first on it is below 0, and all more
+unfoldable pub signedField : ℕ → ℕ → ℕ → Field
+signedField first all n = pick (ltb n first) (num n) (minus (all - n))
+
 -- "−7..7", from the byte; "`major` (0) or `minor` (1)"; "the 16 bits read as signed"
 unfoldable pub columnField : Column → ℕ → Field
 columnField (range lo hi) n = num n
-columnField key b = pick (ltb b 8) (num b) (minus (256 - b))
+columnField key b = signedField 8 256 b
 columnField mode m = pick (eqb m 0) (quoted (bytes "major")) (quoted (bytes "minor"))
 columnField freeType t = num t
-columnField division n = pick (leb n 32767) (num n) (minus (65536 - n))
+columnField division n = signedField 32768 65536 n
 
 -- "Data..": a number for each byte
 unfoldable pub dataFields : List ℕ → List Field

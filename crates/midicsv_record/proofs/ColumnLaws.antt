@@ -9,7 +9,7 @@ use Rattle.smf.specs.Division.{divisionOk}
 use Rattle.midicsv.specs.Field.{Field, num, minus, name, quoted}
 use Rattle.midicsv.specs.Table.{Column, range, freeType, division}
 use Rattle.midicsv.specs.Result.{Result, good, bad, next, test}
-use Rattle.midicsv.specs.ReadRecord.{sizeOf, isFree, signedBits, readColumn}
+use Rattle.midicsv.specs.ReadRecord.{sizeOf, isFree, readSigned, readColumn}
 
 -- ---- a range
 
@@ -48,7 +48,7 @@ free-number (quoted d) = refl
 
 -- ---- the bits of a division
 
-division-number : (f : Field) → readColumn division f ≡ next (signedBits f) (λ n. test (divisionOk n) 25 (good n))
+division-number : (f : Field) → readColumn division f ≡ next (readSigned 32767 32768 65536 f) (λ n. test (divisionOk n) 25 (good n))
 unfolding readColumn
 division-number f = refl
 
@@ -79,5 +79,5 @@ tested c f m t e = record { missed = tested-none _ m t e; taken = tested-in _ m 
 pub free-tested : (f : Field) → Tested freeType f (sizeOf f) (λ n. leb n 127 && isFree (kindOf n))
 free-tested f = tested freeType f (sizeOf f) (λ n. leb n 127 && isFree (kindOf n)) (free-number f)
 
-pub division-tested : (f : Field) → Tested division f (signedBits f) divisionOk
-division-tested f = tested division f (signedBits f) divisionOk (division-number f)
+pub division-tested : (f : Field) → Tested division f (readSigned 32767 32768 65536 f) divisionOk
+division-tested f = tested division f (readSigned 32767 32768 65536 f) divisionOk (division-number f)

@@ -11,7 +11,7 @@ use Rattle.event.proofs.OutcomeLaws.{andThen-same}
 use Rattle.midicsv.specs.Field.{Field, name}
 use Rattle.midicsv.specs.Table.{Column, range, key, mode, freeType, division}
 use Rattle.midicsv.specs.Result.{Result, bad, next}
-use Rattle.midicsv.specs.ReadRecord.{signedBits, readColumn}
+use Rattle.midicsv.specs.ReadRecord.{readSigned, readColumn}
 use Rattle.midicsv_scan.specs.FieldStep.{fieldAs}
 use Rattle.midicsv_scan.specs.declared.FieldStep.{FieldStep}
 use Rattle.midicsv_scan.specs.declared.FieldStep.the-variants.{Number, Minus, Name, Quoted, BadField}
@@ -37,7 +37,7 @@ field-fits g l r BadField b e = rw (← e, b) refl
 
 -- a name fits no column
 name-misfits : (c : Column) (s : List ℕ) → readColumn c (name s) ≡ bad 25
-unfolding readColumn signedBits next
+unfolding readColumn readSigned next
 name-misfits (range lo hi) s = refl
 name-misfits key s = refl
 name-misfits mode s = refl

@@ -11,7 +11,7 @@ use Rattle.midicsv.specs.Field.{Field, num, minus, name, quoted}
 use Rattle.midicsv.specs.Table.{RecordName, Column, range, key, mode, freeType, division, Tail, none, oneText, sized, shape}
 use Rattle.midicsv.specs.Result.{Result, good, bad, next, test}
 use Rattle.midicsv.specs.Names.{nameFrom}
-use Rattle.midicsv.specs.ReadRecord.{counted, signedBits, readColumn, readBytes, readText, readTail, readColumns, withValues, readLine}
+use Rattle.midicsv.specs.ReadRecord.{counted, readSigned, readColumn, readBytes, readText, readTail, readColumns, withValues, readLine}
 use Rattle.midicsv.proofs.ResultLaws.{test-good}
 use Rattle.midicsv_scan.specs.FieldStep.{Counted, FieldIs}
 use Rattle.midicsv_scan.specs.declared.FieldStep.{FieldStep}
@@ -51,12 +51,12 @@ refused-only (bad n) h r = ap bad h
 
 -- ---- fields beside their columns
 
-signed-only : (f : Field) → Only (signedBits f)
-unfolding signedBits
-signed-only (num n) = test-only _ _ tt
-signed-only (minus n) = test-only _ _ tt
-signed-only (name s) = refl
-signed-only (quoted d) = refl
+signed-only : (most least all : ℕ) (f : Field) → Only (readSigned most least all f)
+unfolding readSigned
+signed-only most least all (num n) = test-only _ _ tt
+signed-only most least all (minus n) = test-only _ _ tt
+signed-only most least all (name s) = refl
+signed-only most least all (quoted d) = refl
 
 column-only : (c : Column) (f : Field) → Only (readColumn c f)
 unfolding readColumn
@@ -64,10 +64,7 @@ column-only (range lo hi) (num n) = test-only _ _ tt
 column-only (range lo hi) (minus n) = refl
 column-only (range lo hi) (name s) = refl
 column-only (range lo hi) (quoted d) = refl
-column-only key (num n) = test-only _ _ tt
-column-only key (minus n) = test-only _ _ tt
-column-only key (name s) = refl
-column-only key (quoted d) = refl
+column-only key f = signed-only _ _ _ f
 column-only mode (num n) = refl
 column-only mode (minus n) = refl
 column-only mode (name s) = refl
@@ -76,7 +73,7 @@ column-only freeType (num n) = test-only _ _ tt
 column-only freeType (minus n) = refl
 column-only freeType (name s) = refl
 column-only freeType (quoted d) = refl
-column-only division f = next-only _ _ (signed-only f) (λ n. test-only _ _ tt)
+column-only division f = next-only _ _ (signed-only _ _ _ f) (λ n. test-only _ _ tt)
 
 data-only : (fs : List Field) → Only (readBytes fs)
 unfolding readBytes

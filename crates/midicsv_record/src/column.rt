@@ -1,13 +1,14 @@
 // A field beside its column, and the columns of a record.
 ghost use mathlib.Core.Path.{_≡_};
 ghost use mathlib.Core.Bool.{_&&_};
+ghost use Prim.Native.Nat.{_≤_};
 ghost use lib.Dec.{leb};
 ghost use Rattle.event.specs.Meta.{kindOf};
 ghost use lib.ListN.{drop};
 ghost use Rattle.midicsv.specs.Field.{quoted};
 ghost use Rattle.midicsv.specs.ReadField.{plain};
-ghost use Rattle.midicsv.specs.Table.{range, key, mode, freeType, division};
-ghost use Rattle.midicsv.specs.ReadRecord.{sizeOf, isFree, signedBits, readColumn};
+ghost use Rattle.midicsv.specs.Table.{range, mode, freeType, division};
+ghost use Rattle.midicsv.specs.ReadRecord.{sizeOf, isFree, readSigned, readColumn};
 ghost use Rattle.midicsv_scan.specs.Unquoted.{unquoted};
 ghost use Rattle.midicsv_record.specs.Table.{columnAs, readFirst};
 ghost use Rattle.midicsv_record.specs.Column.{fieldIn, valueAs, Reads};
@@ -46,22 +47,23 @@ pub fn number_in(f: FieldStep, lo: u32, hi: u32) -> ColumnStep
     ColumnStep::Value(value)
 }
 
-// A key -7..7, as its byte in the file.
-fn key_of(f: FieldStep) -> ColumnStep
-    ensures { λ r. ⌜ Reads (readColumn key) f r ⌝ }
+// A number from -least to most; one below 0 is kept as `all` more.
+fn signed_of(f: FieldStep, most: u32, least: u32, all: u32) -> ColumnStep
+    requires { ⌜ least ≤ all ⌝ }
+    ensures { λ r. ⌜ Reads (readSigned most least all) f r ⌝ }
 {
     match f {
         FieldStep::Number { value, .. } => {
-            if 7 < value {
+            if most < value {
                 return ColumnStep::OutOfRange;
             }
             ColumnStep::Value(value)
         }
         FieldStep::Minus { value, .. } => {
-            if 7 < value {
+            if least < value {
                 return ColumnStep::OutOfRange;
             }
-            ColumnStep::Value(256 - value)
+            ColumnStep::Value(all - value)
         }
         FieldStep::Name { .. } => ColumnStep::OutOfRange,
         FieldStep::Quoted { .. } => ColumnStep::OutOfRange,
@@ -129,34 +131,11 @@ fn free_type(f: FieldStep) -> ColumnStep
     ColumnStep::OutOfRange
 }
 
-// The 16 bits of a number -32768..32767.
-fn signed_bits(f: FieldStep) -> ColumnStep
-    ensures { λ r. ⌜ Reads signedBits f r ⌝ }
-{
-    match f {
-        FieldStep::Number { value, .. } => {
-            if 32767 < value {
-                return ColumnStep::OutOfRange;
-            }
-            ColumnStep::Value(value)
-        }
-        FieldStep::Minus { value, .. } => {
-            if 32768 < value {
-                return ColumnStep::OutOfRange;
-            }
-            ColumnStep::Value(65536 - value)
-        }
-        FieldStep::Name { .. } => ColumnStep::OutOfRange,
-        FieldStep::Quoted { .. } => ColumnStep::OutOfRange,
-        FieldStep::BadField => ColumnStep::OutOfRange,
-    }
-}
-
 // A division, as its 16 bits in the file.
 fn division_of(f: FieldStep) -> ColumnStep
     ensures { λ r. ⌜ Reads (readColumn division) f r ⌝ }
 {
-    let ColumnStep::Value(bits) = signed_bits(f) else {
+    let ColumnStep::Value(bits) = signed_of(f, 32767, 32768, 65536) else {
         return ColumnStep::OutOfRange;
     };
     if division_ok(bits) {
@@ -171,7 +150,7 @@ pub fn value_in(line: &[u8], f: FieldStep, column: ColumnKind) -> ColumnStep
 {
     match column {
         ColumnKind::Range { lo, hi } => number_in(f, lo, hi),
-        ColumnKind::Key => key_of(f),
+        ColumnKind::Key => signed_of(f, 7, 7, 256),
         ColumnKind::Mode => mode_of(line, f),
         ColumnKind::FreeType => free_type(f),
         ColumnKind::Division => division_of(f),

@@ -24,7 +24,7 @@ use Rattle.event_write.proofs.DataLaws.{data-length}
 use Rattle.midicsv.specs.Field.{bytes, digitsOf, decimal, Field, num}
 use Rattle.midicsv.specs.Show.{Form, asText, asSheet, gap, show, joined, further, lineOf}
 use Rattle.midicsv.specs.Table.{EventName, note-off, note-on, poly-aftertouch, control-change, program-change, channel-aftertouch, pitch-bend, system-exclusive, system-exclusive-packet, sequence-number, words, channel-prefix, midi-port, end-track, set-tempo, smpte-offset, time-signature, key-signature, sequencer-specific, unknown-meta, start-track, end-of-file, eventSpelled, spelled, Column, range, key, mode, freeType, division, Tail, none, oneText, sized, eventShape, shape}
-use Rattle.midicsv.specs.Record.{columnField, tailFields, fieldsOf, recordLine, nameOf, valuesOf}
+use Rattle.midicsv.specs.Record.{signedField, columnField, tailFields, fieldsOf, recordLine, nameOf, valuesOf}
 use Rattle.midicsv.specs.Text.{mark, eventRecord, recordsText}
 use Rattle.midicsv.proofs.KindAcceptedLaws.{key-same}
 use Rattle.midicsv.proofs.FieldLaws.{decimal-length, quote-length, gap-length, data-length as fields-length}
@@ -51,22 +51,26 @@ pub two-length : (w : Form) (a b : ℕ) → length (further w (num a ∷ num b �
 unfolding further show
 two-length w a b = simp length-append (omega (arith, decimal-length a, decimal-length b, gap-length w))
 
+signed-length : (w : Form) (first all n : ℕ) → length (show w (signedField first all n)) ≤ 11
+unfolding signedField show pick
+signed-length w first all n = by-test (ltb n first) (λ t. rw t (omega (arith, decimal-length n))) (λ t. rw t (omega (arith, decimal-length (all - n))))
+
 column-length : (w : Form) (c : Column) (n : ℕ) → length (show w (columnField c n)) ≤ 11
 unfolding columnField show pick
 column-length w (range lo hi) n = omega (arith, decimal-length n)
-column-length w key b = by-test (ltb b 8) (λ t. rw t (omega (arith, decimal-length b))) (λ t. rw t (omega (arith, decimal-length (256 - b))))
+column-length w key b = signed-length w 8 256 b
 column-length w mode m = rw (mode-shown w m) (by-test (eqb m 0) (λ t. rw t (omega arith)) (λ t. rw t (omega arith)))
 column-length w freeType n = omega (arith, decimal-length n)
-column-length w division n = by-test (leb n 32767) (λ t. rw t (omega (arith, decimal-length n))) (λ t. rw t (omega (arith, decimal-length (65536 - n))))
+column-length w division n = signed-length w 32768 65536 n
 
-pub field-length : (w : Form) (c : Column) (n : ℕ) → length (joined w (columnField c n)) ≤ 13
-field-length w c n = simp length-append (omega (arith, column-length w c n, gap-length w))
+pub field-length : (w : Form) (first all n : ℕ) → length (joined w (signedField first all n)) ≤ 13
+field-length w first all n = simp length-append (omega (arith, signed-length w first all n, gap-length w))
 
 -- ---- a key's byte
 
-pub key-fields : (w : Form) (b m : ℕ) → b ≤ 255 → further w (columnField key b ∷ columnField mode m ∷ []) ≡ further w (columnFields (keySignature (keyOf b) m))
-unfolding nameOf eventShape valuesOf fieldsOf tailFields
-key-fields w b m h = ap (λ z. further w (columnField key z ∷ columnField mode m ∷ [])) (sym (key-same b h))
+pub key-fields : (w : Form) (b m : ℕ) → b ≤ 255 → further w (signedField 8 256 b ∷ columnField mode m ∷ []) ≡ further w (columnFields (keySignature (keyOf b) m))
+unfolding nameOf eventShape valuesOf fieldsOf tailFields columnField
+key-fields w b m h = ap (λ z. further w (signedField 8 256 z ∷ columnField mode m ∷ [])) (sym (key-same b h))
 
 -- ---- lines without an event
 
@@ -98,16 +102,16 @@ end-line asText = refl
 end-line asSheet = refl
 
 -- the columns of the Header
-header-fields : (w : Form) (a b c : ℕ) → headerStart w ++ (further w (num a ∷ num b ∷ columnField division c ∷ []) ++ (10 ∷ [])) ≡ line w (headerFor a b c)
+header-fields : (w : Form) (a b c : ℕ) → headerStart w ++ (further w (num a ∷ num b ∷ signedField 32768 65536 c ∷ []) ++ (10 ∷ [])) ≡ line w (headerFor a b c)
 unfolding headerStart gap recordsText recordLine lineOf further show spelled shape fieldsOf tailFields columnField decimal digitsOf pick
 header-fields asText a b c = refl
 header-fields asSheet a b c = refl
 
 -- as the code writes them: two numbers, and the division
-pub header-line : (w : Form) (a b c : ℕ) → headerStart w ++ (further w (num a ∷ num b ∷ []) ++ (further w (columnField division c ∷ []) ++ (10 ∷ []))) ≡ line w (headerFor a b c)
+pub header-line : (w : Form) (a b c : ℕ) → headerStart w ++ (further w (num a ∷ num b ∷ []) ++ (further w (signedField 32768 65536 c ∷ []) ++ (10 ∷ []))) ≡ line w (headerFor a b c)
 header-line w a b c =
     let xs : List Field = num a ∷ num b ∷ [] in
-    let ys : List Field = columnField division c ∷ [] in
+    let ys : List Field = signedField 32768 65536 c ∷ [] in
     ap (λ z. headerStart w ++ z) (sym (append-assoc (further w xs) (further w ys) (10 ∷ [])) ∙ ap (λ z. z ++ (10 ∷ [])) (sym (further-append w xs ys)))
     ∙ header-fields w a b c
 
@@ -116,9 +120,9 @@ unfolding headerStart
 header-few asText = omega arith
 header-few asSheet = omega arith
 
-division-length : (w : Form) (n : ℕ) → length (further w (columnField division n ∷ [])) ≤ 13
+division-length : (w : Form) (n : ℕ) → length (further w (signedField 32768 65536 n ∷ [])) ≤ 13
 unfolding further
-division-length w n = simp length-append (omega (arith, column-length w division n, gap-length w))
+division-length w n = simp length-append (omega (arith, signed-length w 32768 65536 n, gap-length w))
 
 pub header-line-length : (w : Form) (a b c : ℕ) → length (line w (headerFor a b c)) ≤ 50
 header-line-length w a b c = rw (← header-line w a b c) (simp length-append (omega (arith, two-length w a b, division-length w c, header-few w)))

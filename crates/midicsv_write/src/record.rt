@@ -4,11 +4,11 @@ ghost use Prim.Native.Nat.{_≤_, _<_, _^_};
 ghost use lib.ListN.{length};
 ghost use Rattle.event.specs.Step.{kindFrom};
 ghost use Rattle.event_write.specs.Written.{Written};
-ghost use Rattle.midicsv.specs.Field.{decimal, num, minus};
+ghost use Rattle.midicsv.specs.Field.{decimal, num};
 ghost use Rattle.midicsv.specs.Show.{gap, joined, further};
 ghost use Rattle.midicsv.specs.Code.Form.{formOf};
-ghost use Rattle.midicsv.specs.Table.{key, mode, division, start-track, end-of-file};
-ghost use Rattle.midicsv.specs.Record.{columnField};
+ghost use Rattle.midicsv.specs.Table.{mode, start-track, end-of-file};
+ghost use Rattle.midicsv.specs.Record.{signedField, columnField};
 ghost use Rattle.midicsv.specs.Text.{mark, eventRecord};
 ghost use Rattle.midicsv_write.specs.Line.{eventFrom, columnFields, columnCount, bodyFields, line, headerFor, headerStart};
 use event::EventKind;
@@ -21,36 +21,17 @@ use midicsv::field::put_number_field;
 use midicsv::field::put_sized;
 use midicsv::field::put_text_field;
 
-// A number below 0, by its digits.
-fn put_minus_field(out: &mut [u8], at: usize, n: u32, sheet: bool) -> usize
-    requires { ⌜ at < 2 ^ 45 ⌝ }
-    ensures { λ r. ⌜ Written (now (out .entry)) at (joined (formOf sheet) (minus n)) (now (out .exit)) r ⌝ }
+// A number from what it is in a file: from `first` on it is below 0, and `all` more.
+fn put_signed_field(out: &mut [u8], at: usize, n: u32, first: u32, all: u32, sheet: bool) -> usize
+    requires { ⌜ at < 2 ^ 45 ⌝ ∗ ⌜ n ≤ all ⌝ }
+    ensures { λ r. ⌜ Written (now (out .entry)) at (joined (formOf sheet) (signedField first all n)) (now (out .exit)) r ⌝ }
 {
+    if n < first {
+        return put_number_field(out, at, n, sheet);
+    }
     let a = put_comma(out, at, sheet);
     let b = put_byte(out, a, 45);
-    put_decimal(out, b, n)
-}
-
-// A key, from its byte in the file.
-fn put_key_field(out: &mut [u8], at: usize, byte: u8, sheet: bool) -> usize
-    requires { ⌜ at < 2 ^ 45 ⌝ }
-    ensures { λ r. ⌜ Written (now (out .entry)) at (joined (formOf sheet) (columnField key byte)) (now (out .exit)) r ⌝ }
-{
-    if byte < 8 {
-        return put_number_field(out, at, byte as u32, sheet);
-    }
-    put_minus_field(out, at, 256 - byte as u32, sheet)
-}
-
-// A division, from its 16 bits.
-fn put_division_field(out: &mut [u8], at: usize, bits: u32, sheet: bool) -> usize
-    requires { ⌜ at < 2 ^ 45 ⌝ ∗ ⌜ bits ≤ 65535 ⌝ }
-    ensures { λ r. ⌜ Written (now (out .entry)) at (joined (formOf sheet) (columnField division bits)) (now (out .exit)) r ⌝ }
-{
-    if bits <= 32767 {
-        return put_number_field(out, at, bits, sheet);
-    }
-    put_minus_field(out, at, 65536 - bits, sheet)
+    put_decimal(out, b, all - n)
 }
 
 // "major" or "minor".
@@ -122,7 +103,7 @@ fn put_few_columns(out: &mut [u8], at: usize, kind: EventKind, sheet: bool) -> u
         EventKind::MidiPort { number } => put_number_field(out, at, number as u32, sheet),
         EventKind::Tempo { micros } => put_number_field(out, at, micros, sheet),
         EventKind::KeySignature { key, minor } => {
-            let p = put_key_field(out, at, key, sheet);
+            let p = put_signed_field(out, at, key as u32, 8, 256, sheet);
             put_mode_field(out, p, minor, sheet)
         }
         EventKind::UnknownMeta { kind: t, .. } => put_number_field(out, at, t as u32, sheet),
@@ -319,6 +300,6 @@ pub fn put_header_line(out: &mut [u8], format: u32, count: u32, bits: u32, sheet
 {
     let p = put_header_start(out, sheet);
     let q = put_two_fields(out, p, format, count, sheet);
-    let r = put_division_field(out, q, bits, sheet);
+    let r = put_signed_field(out, q, bits, 32768, 65536, sheet);
     put_byte(out, r, 10)
 }

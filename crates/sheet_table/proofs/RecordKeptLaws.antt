@@ -11,10 +11,10 @@ use Rattle.event.proofs.ChoiceLaws.{pick-false}
 use Rattle.midicsv.specs.Field.{Field, num, minus, name, quoted}
 use Rattle.midicsv.specs.Table.{RecordName, header, start-track, end-of-file, event, note-off, note-on, poly-aftertouch, control-change, program-change, channel-aftertouch, pitch-bend, system-exclusive, system-exclusive-packet, sequence-number, words, channel-prefix, midi-port, end-track, set-tempo, smpte-offset, time-signature, key-signature, sequencer-specific, unknown-meta, Column, range, key, mode, freeType, division, Tail, none, oneText, sized, eventShape, shape}
 use Rattle.midicsv.specs.Record.{Record, Values}
-use Rattle.midicsv.specs.Result.{Result, good, next}
+use Rattle.midicsv.specs.Result.{Result, good}
 use Rattle.midicsv.specs.ReadField.{readField, allFields}
 use Rattle.midicsv.specs.Names.{nameFrom}
-use Rattle.midicsv.specs.ReadRecord.{sizeOf, counted, signedBits, readColumn, readBytes, readText, readTail, readColumns, recordOf, ofFields, readLine}
+use Rattle.midicsv.specs.ReadRecord.{sizeOf, counted, readSigned, readColumn, readBytes, readText, readTail, readColumns, recordOf, ofFields, readLine}
 use Rattle.midicsv.proofs.ResultLaws.{not-good, next-good, test-good}
 use Rattle.midicsv.proofs.RowAcceptedLaws.{counted-good}
 use Rattle.sheet_table.specs.Cut.{has, cut}
@@ -101,12 +101,20 @@ number-plain lo hi (minus k) n e = not-good e
 number-plain lo hi (name s) n e = not-good e
 number-plain lo hi (quoted d) n e = not-good e
 
+signed-plain : (most least all : ℕ) (f : Field) (n : ℕ) → readSigned most least all f ≡ good n → isText f ≡ false
+unfolding readSigned isText
+signed-plain most least all (num k) n e = refl
+signed-plain most least all (minus k) n e = refl
+signed-plain most least all (name s) n e = not-good e
+signed-plain most least all (quoted d) n e = not-good e
+
 key-plain : (f : Field) (n : ℕ) → readColumn key f ≡ good n → isText f ≡ false
-unfolding readColumn isText
-key-plain (num k) n e = refl
-key-plain (minus k) n e = refl
-key-plain (name s) n e = not-good e
-key-plain (quoted d) n e = not-good e
+unfolding readColumn
+key-plain f n e = signed-plain _ _ _ f n e
+
+division-plain : (f : Field) (n : ℕ) → readColumn division f ≡ good n → isText f ≡ false
+unfolding readColumn
+division-plain f n e = next-good (readSigned 32767 32768 65536 f) _ n e (λ m q z. signed-plain _ _ _ f m q)
 
 free-plain : (f : Field) (n : ℕ) → readColumn freeType f ≡ good n → isText f ≡ false
 unfolding readColumn isText
@@ -114,13 +122,6 @@ free-plain (num k) n e = refl
 free-plain (minus k) n e = not-good e
 free-plain (name s) n e = not-good e
 free-plain (quoted d) n e = not-good e
-
-division-plain : (f : Field) (n : ℕ) → readColumn division f ≡ good n → isText f ≡ false
-unfolding readColumn signedBits next isText
-division-plain (num k) n e = refl
-division-plain (minus k) n e = refl
-division-plain (name s) n e = not-good e
-division-plain (quoted d) n e = not-good e
 
 mode-text : (f : Field) (n : ℕ) → readColumn mode f ≡ good n → isText f ≡ true
 unfolding readColumn isText

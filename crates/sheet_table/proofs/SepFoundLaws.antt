@@ -6,7 +6,7 @@ use mathlib.Core.List.{List, [], _∷_, _++_}
 use mathlib.Core.Logic.{_⊎_, inl, inr}
 use native.Mathlib.Omega.{arith}
 use lib.ListN.{length}
-use lib.Dec.{leb, eqb}
+use lib.Dec.{ltb, eqb}
 use borrow.Author.Tests.{ne-eqb, eqb-true}
 use Rattle.event.specs.Choice.{pick}
 use Rattle.event.proofs.ChoiceLaws.{by-test, pick-true, pick-false}
@@ -15,7 +15,7 @@ use Rattle.smf.specs.Piece.{Piece, LawfulPiece}
 use Rattle.smf.proofs.DivisionLaws.{division-fits}
 use Rattle.midicsv.specs.Field.{decimal, Field}
 use Rattle.midicsv.specs.Table.{header, spelled, division, shape}
-use Rattle.midicsv.specs.Record.{columnField, tailFields, fieldsOf, recordFields}
+use Rattle.midicsv.specs.Record.{signedField, columnField, tailFields, fieldsOf, recordFields}
 use Rattle.midicsv.specs.Text.{headerRecord}
 use Rattle.midicsv.proofs.AllLaws.{All, Digit}
 use Rattle.midicsv.proofs.DecimalReadLaws.{decimal-digits}
@@ -55,9 +55,9 @@ module _ (k : ℕ) (digit : (k < 48) ⊎ (57 < k)) (sign : eqb 45 k ≡ false) (
   number-other n h = digits-other (decimal n) (decimal-digits n h .1)
 
   division-other : (n : ℕ) → n < 65536 → All (λ x. eqb x k ≡ false) (cellOf (columnField division n))
-  unfolding columnField cellOf pick
+  unfolding columnField signedField cellOf pick
   division-other n h =
-      by-test (leb n 32767) (λ t. rw t (number-other n (omega arith))) (λ t. rw t (sign, number-other (65536 - n) (omega arith)))
+      by-test (ltb n 32768) (λ t. rw t (number-other n (omega arith))) (λ t. rw t (sign, number-other (65536 - n) (omega arith)))
 
   header-other : (p : Piece) → LawfulPiece p → InCells (λ x. eqb x k ≡ false) (recordFields (headerRecord p))
   unfolding headerRecord shape fieldsOf columnField tailFields cellOf InCells

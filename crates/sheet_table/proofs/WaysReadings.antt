@@ -10,7 +10,7 @@ use Rattle.midicsv.specs.Field.{bytes, digitsOf, decimal}
 use Rattle.midicsv.specs.Spell.{octal, orOctal, isMark, isSolid, standsInside, standsLast, unblanked, listed, isTruth, spellRest, spellShort, spellText}
 use Rattle.midicsv.specs.Show.{gap, spellIn, quote, show, further, lineOf}
 use Rattle.midicsv.specs.Table.{eventSpelled, spelled, eventShape, shape}
-use Rattle.midicsv.specs.Record.{columnField, dataFields, tailFields, fieldsOf, recordLine, nameOf, valuesOf}
+use Rattle.midicsv.specs.Record.{signedField, columnField, dataFields, tailFields, fieldsOf, recordLine, nameOf, valuesOf}
 use Rattle.midicsv.specs.Text.{eventRecord, eventRecords, trackRecords, headerRecord, pieceRecords, recordsText, writtenAs, sheetOf}
 use Rattle.midicsv.specs.TruthWords.{truthWords}
 use Rattle.midicsv.specs.ReadField.{isBlank, isDigit, isLetter, skip, push, readDigits, readNumber, negative, readQuoted, readName, atComma, finish, fieldOf, readField}
@@ -28,7 +28,7 @@ pub record SavedExample : Type 0 where
   pub wrapped : saved wrappedWay examplePiece ≡ wrappedSaved
 
 pub saved-example : SavedExample
-unfolding writtenAs recordsText pieceRecords headerRecord trackRecords eventRecords eventRecord recordLine lineOf further show gap quote spellIn spellText spellShort spellRest orOctal octal isMark isSolid standsInside standsLast unblanked listed isTruth truthWords sameName lower isLetter decimal digitsOf spelled eventSpelled shape eventShape columnField dataFields tailFields fieldsOf nameOf valuesOf saved orderMark withEnds lineEnd emptyLines emptyRow layoutSep tableRows wrappedRows wrappedRow savedRows savedRow savedFurther savedExtra savedCell cellOf sepByte requote doubled has isNone pick bits
+unfolding writtenAs recordsText pieceRecords headerRecord trackRecords eventRecords eventRecord recordLine lineOf further show gap quote spellIn spellText spellShort spellRest orOctal octal isMark isSolid standsInside standsLast unblanked listed isTruth truthWords sameName lower isLetter decimal digitsOf spelled eventSpelled shape eventShape signedField columnField dataFields tailFields fieldsOf nameOf valuesOf saved orderMark withEnds lineEnd emptyLines emptyRow layoutSep tableRows wrappedRows wrappedRow savedRows savedRow savedFurther savedExtra savedCell cellOf sepByte requote doubled has isNone pick bits
 saved-example = record { sheet = refl; film = refl; cells = refl; wrapped = refl }
 
 -- the text of each saved table is the sheet form again, and an empty line for each empty row

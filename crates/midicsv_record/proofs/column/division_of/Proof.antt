@@ -5,8 +5,8 @@ use borrow.Author.Needs.{needs}
 use Rattle.midicsv_record.proofs.column.division_of.Statement.{statement}
 use Rattle.midicsv_record.proofs.column.division_of.Tie as tie
 
-signed-bits-requires : tie.Need-signed-bits-requires
-signed-bits-requires c κs = search needs
+signed-of-requires : tie.Need-signed-of-requires
+signed-of-requires c κs = search needs
 
 enum-known-bits : tie.Need-enum-known-bits
 enum-known-bits c = search needs
@@ -16,24 +16,24 @@ enum-told c = search needs
 
 returns : tie.Need-returns
 unfolding valueAs
-returns c = λ l. division-tested (fieldIn l (c .before .before .before .args .f)) .missed (ap valueAs (sym (c .enum-told .given .1)) ∙ c .before .before .signed-bits .ensures l)
+returns c = λ l. division-tested (fieldIn l (c .before .before .before .args .f)) .missed (ap valueAs (sym (c .enum-told .given .1)) ∙ c .before .before .signed-of .ensures l)
 
 division-ok-requires : tie.Need-division-ok-requires
 division-ok-requires c κs = search needs
 
 returns-2 : tie.Need-returns-2
 unfolding valueAs
-returns-2 c = λ l. division-tested (fieldIn l (c .before .before .before .before .before .before .args .f)) .taken _ (ap valueAs (sym (c .before .before .before .bits .given .1)) ∙ c .before .before .before .before .before .signed-bits .ensures l) (sym (c .before .division-ok .ensures) ∙ c .if1 .taken)
+returns-2 c = λ l. division-tested (fieldIn l (c .before .before .before .before .before .before .args .f)) .taken _ (ap valueAs (sym (c .before .before .before .bits .given .1)) ∙ c .before .before .before .before .before .signed-of .ensures l) (sym (c .before .division-ok .ensures) ∙ c .if1 .taken)
 
 returns-3 : tie.Need-returns-3
 unfolding valueAs
-returns-3 c = λ l. division-tested (fieldIn l (c .before .before .before .before .before .before .args .f)) .left _ (ap valueAs (sym (c .before .before .before .bits .given .1)) ∙ c .before .before .before .before .before .signed-bits .ensures l) (sym (c .before .division-ok .ensures) ∙ c .if1 .left)
+returns-3 c = λ l. division-tested (fieldIn l (c .before .before .before .before .before .before .args .f)) .left _ (ap valueAs (sym (c .before .before .before .bits .given .1)) ∙ c .before .before .before .before .before .signed-of .ensures l) (sym (c .before .division-ok .ensures) ∙ c .if1 .left)
 
 pub division-of-spec : {M : Type 1} → statement M
 division-of-spec =
     tie.close
     (tie.spec
-    signed-bits-requires
+    signed-of-requires
     enum-known-bits
     enum-told
     returns

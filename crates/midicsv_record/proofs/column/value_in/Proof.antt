@@ -1,3 +1,4 @@
+use Rattle.midicsv.specs.ReadRecord.{readColumn}
 use Rattle.midicsv_record.specs.Column.{valueAs}
 use Rattle.midicsv_record.specs.Table.{columnAs, readFirst}
 use mathlib.Core.Path.{refl}
@@ -14,8 +15,8 @@ number-in-requires c κs = search needs
 enum-told : tie.Need-enum-told
 enum-told c = search needs
 
-key-of-requires : tie.Need-key-of-requires
-key-of-requires c κs = search needs
+signed-of-requires : tie.Need-signed-of-requires
+signed-of-requires c κs = search needs
 
 enum-told-2 : tie.Need-enum-told-2
 enum-told-2 c = search needs
@@ -43,8 +44,8 @@ unfolding valueAs columnAs readFirst
 returns c = rw (c .before .before .column .given .1) (c .number-in .ensures (c .before .before .before .before .before .args .line .now))
 
 returns-2 : tie.Need-returns-2
-unfolding valueAs columnAs readFirst
-returns-2 c = rw (c .before .enum-told .given .1) (c .key-of .ensures (c .before .before .before .before .args .line .now))
+unfolding valueAs columnAs readFirst readColumn
+returns-2 c = rw (c .before .enum-told .given .1) (c .signed-of .ensures (c .before .before .before .before .args .line .now))
 
 returns-3 : tie.Need-returns-3
 unfolding valueAs columnAs readFirst
@@ -69,7 +70,7 @@ value-in-spec =
     enum-known-column
     number-in-requires
     enum-told
-    key-of-requires
+    signed-of-requires
     enum-told-2
     mode-of-requires
     enum-told-3

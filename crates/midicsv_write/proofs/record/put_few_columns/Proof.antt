@@ -3,7 +3,7 @@ use Rattle.event_write.proofs.WriteLaws.{then, nothing}
 use Rattle.event.specs.Step.{kindFrom}
 use Rattle.midicsv.specs.Field.{num}
 use Rattle.midicsv.specs.Show.{further}
-use Rattle.midicsv.specs.Table.{key, mode, eventShape}
+use Rattle.midicsv.specs.Table.{mode, eventShape}
 use Rattle.midicsv.specs.Record.{columnField, tailFields, fieldsOf, nameOf, valuesOf}
 use Rattle.midicsv_write.proofs.LineLaws.{last-field, field-length, key-fields, no-columns}
 use native.Mathlib.Omega.{arith}
@@ -80,11 +80,14 @@ put-number-field-requires-4 c κs = search needs
 enum-known-kind-8 : tie.Need-enum-known-kind-8
 enum-known-kind-8 c = search needs
 
-put-key-field-requires : tie.Need-put-key-field-requires
-put-key-field-requires c κs = search needs
+cast-put-signed-field : tie.Need-cast-put-signed-field
+cast-put-signed-field c = search needs
+
+put-signed-field-requires : tie.Need-put-signed-field-requires
+put-signed-field-requires c κs = search needs
 
 put-mode-field-requires : tie.Need-put-mode-field-requires
-put-mode-field-requires c κs = omega (arith, c .before .before .before .put-key-field .ensures .place, field-length (formOf (c .before .before .before .before .before .before .before .before .before .args .sheet)) key (c .before .before .before .before .before .before .kind8 .given .0 .0), c .before .before .before .before .before .before .before .before .before .pre .0)
+put-mode-field-requires c κs = omega (arith, c .before .before .before .put-signed-field .ensures .place, field-length (formOf (c .before .before .before .before .before .before .before .before .before .args .sheet)) 8 256 (c .before .before .before .before .before .before .kind8 .given .0 .0), c .before .before .before .before .before .before .before .before .before .pre .0)
 
 enum-known-kind-9 : tie.Need-enum-known-kind-9
 enum-known-kind-9 c = search needs
@@ -150,7 +153,7 @@ same-length-8 c = search needs
 returns-8 : tie.Need-returns-8
 unfolding kindFrom further
 returns-8 c = let k = c .before .before .before .before .before .before .before .before .before .kind8 .given in
-    rw (k .1) (rw (key-fields (formOf (c .before .before .before .before .before .before .before .before .before .before .before .before .args .sheet)) (k .0 .0) (k .0 .1 .0) (omega (arith, c .before .before .before .before .before .before .before .before .known-told8 .given))) at (then (c .before .before .before .before .before .before .put-key-field .ensures) (last-field (formOf (c .before .before .before .before .before .before .before .before .before .before .before .before .args .sheet)) (columnField mode (k .0 .1 .0)) (c .before .before .put-mode-field .ensures))))
+    rw (k .1) (rw (key-fields (formOf (c .before .before .before .before .before .before .before .before .before .before .before .before .args .sheet)) (k .0 .0) (k .0 .1 .0) (omega (arith, c .before .before .before .before .before .before .before .before .known-told8 .given))) at (then (c .before .before .before .before .before .before .put-signed-field .ensures) (last-field (formOf (c .before .before .before .before .before .before .before .before .before .before .before .before .args .sheet)) (columnField mode (k .0 .1 .0)) (c .before .before .put-mode-field .ensures))))
 
 same-length-9 : tie.Need-same-length-9
 same-length-9 c = search needs
@@ -190,7 +193,8 @@ put-few-columns-spec =
     enum-known-kind-7
     put-number-field-requires-4
     enum-known-kind-8
-    put-key-field-requires
+    cast-put-signed-field
+    put-signed-field-requires
     put-mode-field-requires
     enum-known-kind-9
     cast-put-number-field-3
