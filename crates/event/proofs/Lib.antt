@@ -16,3 +16,6 @@ pub mod StatusLaws
 pub mod StepLaws
 pub mod DataLaws
 pub mod MannerLaws
+pub mod PaddingLaws
+pub mod PaddingCases
+pub mod UnpaddedLaws

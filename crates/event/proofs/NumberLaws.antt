@@ -1,5 +1,5 @@
 -- Variable-length numbers: what is laid out is read back, what is read was laid out, and writers use the fewest bytes.
-use mathlib.Core.Path.{_≡_, ap, _∙_}
+use mathlib.Core.Path.{_≡_, refl, ap, _∙_}
 use Prim.Native.Nat.{ℕ, suc, _+_, _-_, _*_, _/_, _%_, _<_, _≤_}
 use mathlib.Core.List.{List, [], _∷_, _++_}
 use native.Mathlib.Omega.{arith}
@@ -8,7 +8,7 @@ use lib.ListN.{length}
 use borrow.Author.Tests.{ltb-true, ltb-false, lt-ltb, le-ltb, leb-true, leb-false, le-leb, lt-leb}
 use Rattle.event.specs.Choice.{pick}
 use Rattle.event.specs.Bytes.{Bytes}
-use Rattle.event.specs.Number.{Width, w1, w2, w3, w4, limit, vlq, least}
+use Rattle.event.specs.Number.{Width, w1, w2, w3, w4, bytesIn, limit, vlq, least}
 use Rattle.event.specs.Outcome.{ok}
 use Rattle.event.specs.Reader.{readMore, readVlq}
 use Rattle.event.proofs.ChoiceLaws.{pick-cases, by-test}
@@ -87,12 +87,28 @@ vlq-laid l v r bs e =
 pub vlq-sound : {X : Type 0} (l : List ℕ) (v : ℕ) (r : List ℕ) → Bytes l → readVlq l ≡ ok v r → ((w : Width) → v < limit w → l ≡ vlq w v ++ r → X) → X
 vlq-sound l v r bs e k = let s = vlq-laid l v r bs e in k (s .0) (s .1) (s .2)
 
-pub vlq-size : (w : Width) (v : ℕ) → 1 ≤ length (vlq w v)
+-- its bytes are as many as its width says, one at least and four at most
+pub vlq-length : (w : Width) (v : ℕ) → length (vlq w v) ≡ bytesIn w
 unfolding vlq
-vlq-size w1 v = omega arith
-vlq-size w2 v = omega arith
-vlq-size w3 v = omega arith
-vlq-size w4 v = omega arith
+vlq-length w1 v = refl
+vlq-length w2 v = refl
+vlq-length w3 v = refl
+vlq-length w4 v = refl
+
+pub bytes-some : (w : Width) → 1 ≤ bytesIn w
+bytes-some w1 = omega arith
+bytes-some w2 = omega arith
+bytes-some w3 = omega arith
+bytes-some w4 = omega arith
+
+pub bytes-most : (w : Width) → bytesIn w ≤ 4
+bytes-most w1 = omega arith
+bytes-most w2 = omega arith
+bytes-most w3 = omega arith
+bytes-most w4 = omega arith
+
+pub vlq-size : (w : Width) (v : ℕ) → 1 ≤ length (vlq w v)
+vlq-size w v = omega (arith, vlq-length w v, bytes-some w)
 
 -- ---- the fewest bytes
 
@@ -124,7 +140,7 @@ module _ (v : ℕ) where
       rw (lt-leb _ _ e, lt-leb _ _ f, lt-leb _ _ g)
 
 -- every number has one of them
-least-cases : {X : Type 0} (v : ℕ)
+pub least-cases : {X : Type 0} (v : ℕ)
     → (least v ≡ w1 → v ≤ 127 → X) → (least v ≡ w2 → 127 < v → v ≤ 16383 → X)
     → (least v ≡ w3 → 16383 < v → v ≤ 2097151 → X) → (least v ≡ w4 → 2097151 < v → X) → X
 least-cases v f1 f2 f3 f4 =

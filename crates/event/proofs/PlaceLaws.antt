@@ -65,18 +65,24 @@ found-at s at v p w r h vw pp =
     let back : drop (length s - length r) s ≡ r = place s (h .0) r at (h .1) in
     (cc, omega arith)
 
-number-found : (s : List ℕ) (at v p : ℕ) (m : Outcome ℕ) → Left (drop at s) m → numberStep (length s) m ≡ Value v p → (m ≡ ok v (drop p s)) × (p ≤ length s)
+number-found : {y : ℕ} (x : ℕ) (s : List ℕ) (at v p : ℕ) (m : Outcome ℕ) → Left (drop at s) m → numberStep (length s) x m ≡ Value v p y → (m ≡ ok v (drop p s)) × (p ≤ length s)
 unfolding numberStep
-number-found s at v p (ok w r) h e = found-at s at v p w r h (cc) (cc)
-number-found s at v p (refused k z) h e = let w : _≡_ {A = ℕ} 0 1 = cc in absurd (omega arith)
+number-found x s at v p (ok w r) h e = found-at s at v p w r h (cc) (cc)
+number-found x s at v p (refused k z) h e = let w : _≡_ {A = ℕ} 0 1 = cc in absurd (omega arith)
 
-pub number-came : (s : List ℕ) (at v p : ℕ) → numberStep (length s) (readVlq (drop at s)) ≡ Value v p → (readVlq (drop at s) ≡ ok v (drop p s)) × (p ≤ length s)
-number-came s at v p e = number-found s at v p (readVlq (drop at s)) (vlq-left (drop at s)) e
+pub number-came : {y : ℕ} (x : ℕ) (s : List ℕ) (at v p : ℕ) → numberStep (length s) x (readVlq (drop at s)) ≡ Value v p y → (readVlq (drop at s) ≡ ok v (drop p s)) × (p ≤ length s)
+number-came x s at v p e = number-found x s at v p (readVlq (drop at s)) (vlq-left (drop at s)) e
 
-pub number-bad : (n k : ℕ) (m : Outcome ℕ) → numberStep n m ≡ Unread k → (z : ℕ) × (m ≡ refused k z)
+-- and the count beside it is the one that was asked for
+pub number-told : {y v p : ℕ} (x n : ℕ) (m : Outcome ℕ) → numberStep n x m ≡ Value v p y → x ≡ y
 unfolding numberStep
-number-bad n k (ok v r) e = let w : _≡_ {A = ℕ} 0 1 = cc in absurd (omega arith)
-number-bad n k (refused j z) e = (z, cc)
+number-told x n (ok w r) e = cc
+number-told x n (refused k z) e = let w : _≡_ {A = ℕ} 0 1 = cc in absurd (omega arith)
+
+pub number-bad : (x n k : ℕ) (m : Outcome ℕ) → numberStep n x m ≡ Unread k → (z : ℕ) × (m ≡ refused k z)
+unfolding numberStep
+number-bad x n k (ok v r) e = let w : _≡_ {A = ℕ} 0 1 = cc in absurd (omega arith)
+number-bad x n k (refused j z) e = (z, cc)
 
 byte-found : (s : List ℕ) (at v p : ℕ) (m : Outcome ℕ) → Left (drop at s) m → byteStep (length s) m ≡ Byte v p → (m ≡ ok v (drop p s)) × (p ≤ length s)
 unfolding byteStep

@@ -32,13 +32,13 @@ module _ (s : List ℕ) (status at n p : ℕ) (came : readVlq (drop at s) ≡ ok
   unfolding readExclusive andThen frameStep
   exclusive-at h = simp (came, data-at s p n h, place-back s (p + n) h)
 
-  pub exclusive-first : p + n ≤ length s → status ≡ 240 → Found (SystemExclusive p n) (p + n) 0 ≡ frameStep (length s) (readExclusive status (drop at s))
+  pub exclusive-first : p + n ≤ length s → status ≡ 240 → Found (SystemExclusive p n) (p + n) 0 0 ≡ frameStep (length s) (readExclusive status (drop at s))
   unfolding frameAt kindAt kindIn after pick
   exclusive-first h e =
       let back : p + n - n ≡ p = omega arith in
       rw (exclusive-at h) (simp (e, size-at s p n h, back))
 
-  pub exclusive-other : p + n ≤ length s → (status ≡ 240 → ⊥) → Found (SystemExclusivePacket p n) (p + n) 0 ≡ frameStep (length s) (readExclusive status (drop at s))
+  pub exclusive-other : p + n ≤ length s → (status ≡ 240 → ⊥) → Found (SystemExclusivePacket p n) (p + n) 0 0 ≡ frameStep (length s) (readExclusive status (drop at s))
   unfolding frameAt kindAt kindIn after pick
   exclusive-other h e =
       let back : p + n - n ≡ p = omega arith in
@@ -47,7 +47,7 @@ module _ (s : List ℕ) (status at n p : ℕ) (came : readVlq (drop at s) ≡ ok
 -- ---- a row of the kind k with the data d, in its range or not
 
 module _ (s : List ℕ) (t p n : ℕ) (d : List ℕ) (k : MetaKind) (fit : p + n ≤ length s) (got : take n (drop p s) ≡ d) (kind : kindOf t ≡ k) where
-  row-ok : valueOk k d ≡ true → Found (kindAt (p + n) (metaOf k t d)) (p + n) 0 ≡ frameStep (length s) (metaData t n (drop p s))
+  row-ok : valueOk k d ≡ true → Found (kindAt (p + n) (metaOf k t d)) (p + n) 0 0 ≡ frameStep (length s) (metaData t n (drop p s))
   unfolding metaData andThen check frameStep frameAt kindIn after
   row-ok h = simp (data-at s p n fit, got, kind, h, place-back s (p + n) fit)
 
@@ -81,30 +81,30 @@ module _ (s : List ℕ) (p : ℕ) where
   got : (n : ℕ) → p + n ≤ length s → take n (drop p s) ≡ bytesFrom n (drop p s) 0
   got n h = let fit : n ≤ length (drop p s) = simp length-drop (omega arith) in take-from n (drop p s) fit
 
-  pub row-sequence : (v : ℕ) → p + 2 ≤ length s → v ≡ number (bytesFrom 2 (drop p s) 0) → Found (SequenceNumber v) (p + 2) 0 ≡ M 0 2
+  pub row-sequence : (v : ℕ) → p + 2 ≤ length s → v ≡ number (bytesFrom 2 (drop p s) 0) → Found (SequenceNumber v) (p + 2) 0 0 ≡ M 0 2
   unfolding kindOf valueOk kindAt metaOf
-  row-sequence v h e = ap (λ z. Found (SequenceNumber z) (p + 2) 0) e ∙ row-ok s 0 p 2 (B 0 ∷ B 1 ∷ []) sequenceKind h (got 2 h) refl refl
+  row-sequence v h e = ap (λ z. Found (SequenceNumber z) (p + 2) 0 0) e ∙ row-ok s 0 p 2 (B 0 ∷ B 1 ∷ []) sequenceKind h (got 2 h) refl refl
 
-  pub row-prefix : (a : ℕ) → p + 1 ≤ length s → a ≡ B 0 → Found (ChannelPrefix a) (p + 1) 0 ≡ M 0x20 1
+  pub row-prefix : (a : ℕ) → p + 1 ≤ length s → a ≡ B 0 → Found (ChannelPrefix a) (p + 1) 0 0 ≡ M 0x20 1
   unfolding kindOf valueOk kindAt metaOf number horner
-  row-prefix a h ea = ap (λ z. Found (ChannelPrefix z) (p + 1) 0) (omega arith) ∙ row-ok s 0x20 p 1 (B 0 ∷ []) prefixKind h (got 1 h) refl refl
+  row-prefix a h ea = ap (λ z. Found (ChannelPrefix z) (p + 1) 0 0) (omega arith) ∙ row-ok s 0x20 p 1 (B 0 ∷ []) prefixKind h (got 1 h) refl refl
 
-  pub row-port : (a : ℕ) → p + 1 ≤ length s → a ≡ B 0 → Found (MidiPort a) (p + 1) 0 ≡ M 0x21 1
+  pub row-port : (a : ℕ) → p + 1 ≤ length s → a ≡ B 0 → Found (MidiPort a) (p + 1) 0 0 ≡ M 0x21 1
   unfolding kindOf valueOk kindAt metaOf number horner
-  row-port a h ea = ap (λ z. Found (MidiPort z) (p + 1) 0) (omega arith) ∙ row-ok s 0x21 p 1 (B 0 ∷ []) portKind h (got 1 h) refl refl
+  row-port a h ea = ap (λ z. Found (MidiPort z) (p + 1) 0 0) (omega arith) ∙ row-ok s 0x21 p 1 (B 0 ∷ []) portKind h (got 1 h) refl refl
 
   module _ (a b c : ℕ) (h : p + 3 ≤ length s) (ea : a ≡ B 0) (eb : b ≡ B 1) (ec : c ≡ B 2) where
-    pub row-tempo : ((a * 256 + b) * 256 + c ≡ 0 → ⊥) → Found (Tempo ((a * 256 + b) * 256 + c)) (p + 3) 0 ≡ M 0x51 3
+    pub row-tempo : ((a * 256 + b) * 256 + c ≡ 0 → ⊥) → Found (Tempo ((a * 256 + b) * 256 + c)) (p + 3) 0 0 ≡ M 0x51 3
     unfolding kindOf valueOk kindAt metaOf number horner
     row-tempo n =
-        ap (λ z. Found (Tempo z) (p + 3) 0) (omega arith)
+        ap (λ z. Found (Tempo z) (p + 3) 0 0) (omega arith)
         ∙ row-ok s 0x51 p 3 (B 0 ∷ B 1 ∷ B 2 ∷ []) tempoKind h (got 3 h) refl (le-leb 1 (((0 * 256 + B 0) * 256 + B 1) * 256 + B 2) (omega arith))
 
     pub row-tempo-bad : (a * 256 + b) * 256 + c ≡ 0 → Refused 11 ≡ M 0x51 3
     unfolding kindOf valueOk number horner
     row-tempo-bad z = row-bad s 0x51 p 3 (B 0 ∷ B 1 ∷ B 2 ∷ []) tempoKind h (got 3 h) refl (lt-leb 1 (((0 * 256 + B 0) * 256 + B 1) * 256 + B 2) (omega arith))
 
-  pub row-offset : (a b c f g : ℕ) → p + 5 ≤ length s → a ≡ B 0 → b ≡ B 1 → c ≡ B 2 → f ≡ B 3 → g ≡ B 4 → g ≤ 99 → Found (SmpteOffset a b c f g) (p + 5) 0 ≡ M 0x54 5
+  pub row-offset : (a b c f g : ℕ) → p + 5 ≤ length s → a ≡ B 0 → b ≡ B 1 → c ≡ B 2 → f ≡ B 3 → g ≡ B 4 → g ≤ 99 → Found (SmpteOffset a b c f g) (p + 5) 0 0 ≡ M 0x54 5
   unfolding kindOf valueOk kindAt metaOf
   row-offset a b c f g h ea eb ec ef eg k =
       rw (ea, eb, ec, ef, eg) (row-ok s 0x54 p 5 (B 0 ∷ B 1 ∷ B 2 ∷ B 3 ∷ B 4 ∷ []) offsetKind h (got 5 h) refl (le-leb (B 4) 99 (omega arith)))
@@ -113,7 +113,7 @@ module _ (s : List ℕ) (p : ℕ) where
   unfolding kindOf valueOk
   row-offset-bad g h eg k = row-bad s 0x54 p 5 (B 0 ∷ B 1 ∷ B 2 ∷ B 3 ∷ B 4 ∷ []) offsetKind h (got 5 h) refl (lt-leb (B 4) 99 (omega arith))
 
-  pub row-time : (a b c f : ℕ) → p + 4 ≤ length s → a ≡ B 0 → b ≡ B 1 → c ≡ B 2 → f ≡ B 3 → Found (TimeSignature a b c f) (p + 4) 0 ≡ M 0x58 4
+  pub row-time : (a b c f : ℕ) → p + 4 ≤ length s → a ≡ B 0 → b ≡ B 1 → c ≡ B 2 → f ≡ B 3 → Found (TimeSignature a b c f) (p + 4) 0 0 ≡ M 0x58 4
   unfolding kindOf valueOk kindAt metaOf
   row-time a b c f h ea eb ec ef = rw (ea, eb, ec, ef) (row-ok s 0x58 p 4 (B 0 ∷ B 1 ∷ B 2 ∷ B 3 ∷ []) timeKind h (got 4 h) refl refl)
 
@@ -121,13 +121,13 @@ module _ (s : List ℕ) (p : ℕ) where
     key-data : take 2 (drop p s) ≡ a ∷ b ∷ []
     key-data = rw (ea, eb) (got 2 h)
 
-    pub row-sharps : a ≤ 7 → b ≤ 1 → Found (KeySignature a b) (p + 2) 0 ≡ M 0x59 2
+    pub row-sharps : a ≤ 7 → b ≤ 1 → Found (KeySignature a b) (p + 2) 0 0 ≡ M 0x59 2
     unfolding kindOf valueOk kindAt metaOf keyOf keyByte pick
     row-sharps k m =
         let ok-is : valueOk keyKind (a ∷ b ∷ []) ≡ true = simp (le-leb a 7 k, le-leb b 1 m) in
         rw (le-leb a 7 k) at (row-ok s 0x59 p 2 (a ∷ b ∷ []) keyKind h key-data refl ok-is)
 
-    pub row-flats : 249 ≤ a → a < 256 → b ≤ 1 → Found (KeySignature a b) (p + 2) 0 ≡ M 0x59 2
+    pub row-flats : 249 ≤ a → a < 256 → b ≤ 1 → Found (KeySignature a b) (p + 2) 0 0 ≡ M 0x59 2
     unfolding kindOf valueOk kindAt metaOf keyOf keyByte pick
     row-flats k f m =
         let ok-is : valueOk keyKind (a ∷ b ∷ []) ≡ true = simp (lt-leb a 7 (omega arith), le-leb 249 a k, le-leb b 1 m) in
@@ -151,21 +151,21 @@ module _ (s : List ℕ) (p : ℕ) where
     start : p ≡ p + n - length (take n (drop p s))
     start = omega (arith, size)
 
-    pub row-end : t ≡ 0x2f → Found EndTrack (p + n) 0 ≡ M t n
+    pub row-end : t ≡ 0x2f → Found EndTrack (p + n) 0 0 ≡ M t n
     unfolding kindOf valueOk kindAt metaOf
     row-end e = row-ok s t p n (take n (drop p s)) endKind fit refl (ap kindOf e) refl
 
-    pub row-text : 1 ≤ t → t ≤ 7 → Found (Text t p n) (p + n) 0 ≡ M t n
+    pub row-text : 1 ≤ t → t ≤ 7 → Found (Text t p n) (p + n) 0 0 ≡ M t n
     unfolding valueOk kindAt metaOf
-    row-text h g = ap₂ (λ x y. Found (Text t x y) (p + n) 0) start size ∙ row-ok s t p n (take n (drop p s)) textKind fit refl (text-kind t h g) refl
+    row-text h g = ap₂ (λ x y. Found (Text t x y) (p + n) 0 0) start size ∙ row-ok s t p n (take n (drop p s)) textKind fit refl (text-kind t h g) refl
 
-    pub row-specific : t ≡ 0x7f → Found (SequencerSpecific p n) (p + n) 0 ≡ M t n
+    pub row-specific : t ≡ 0x7f → Found (SequencerSpecific p n) (p + n) 0 0 ≡ M t n
     unfolding kindOf valueOk kindAt metaOf
-    row-specific e = ap₂ (λ x y. Found (SequencerSpecific x y) (p + n) 0) start size ∙ row-ok s t p n (take n (drop p s)) specificKind fit refl (ap kindOf e) refl
+    row-specific e = ap₂ (λ x y. Found (SequencerSpecific x y) (p + n) 0 0) start size ∙ row-ok s t p n (take n (drop p s)) specificKind fit refl (ap kindOf e) refl
 
-    pub row-unknown : kindOf t ≡ unknownKind → Found (UnknownMeta t p n) (p + n) 0 ≡ M t n
+    pub row-unknown : kindOf t ≡ unknownKind → Found (UnknownMeta t p n) (p + n) 0 0 ≡ M t n
     unfolding valueOk kindAt metaOf
-    row-unknown e = ap₂ (λ x y. Found (UnknownMeta t x y) (p + n) 0) start size ∙ row-ok s t p n (take n (drop p s)) unknownKind fit refl e refl
+    row-unknown e = ap₂ (λ x y. Found (UnknownMeta t x y) (p + n) 0 0) start size ∙ row-ok s t p n (take n (drop p s)) unknownKind fit refl e refl
 
 -- a type of a fixed length has that length
 pub sized : (t u n k : ℕ) → t ≡ u → lengthOk (kindOf u) n ≡ eqb n k → lengthOk (kindOf t) n ≡ true → n ≡ k

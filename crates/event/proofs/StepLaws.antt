@@ -1,5 +1,5 @@
 -- An event with its delta, as the code gives it.
-use mathlib.Core.Path.{_≡_, refl, sym, ap, _∙_}
+use mathlib.Core.Path.{_≡_, refl, sym, ap, ap₂, _∙_}
 use Prim.Native.Nat.{ℕ, _+_, _-_}
 use mathlib.Core.Bool.{true, false}
 use mathlib.Core.List.{List}
@@ -13,7 +13,8 @@ use Rattle.event.specs.Frame.{Frame, frame, after}
 use Rattle.event.specs.Outcome.{Outcome, ok, refused, andThen, check}
 use Rattle.event.specs.Reader.{readVlq, readFrame, kindIn, readEvent}
 use Rattle.event.specs.Dates.{laterOf}
-use Rattle.event.specs.Step.{kindAt, frameAt, frameStep, eventStep, endOf}
+use Rattle.event.specs.Step.{kindAt, frameAt, frameStep, padded, eventStep, endOf}
+use Rattle.event.specs.Padding.{restOf, vlqPadding, framePadding, eventPadding}
 use Rattle.event.specs.declared.Time.{Time}
 use Rattle.event.specs.declared.EventKind.{EventKind}
 use Rattle.event.specs.declared.Later.the-variants.{At, Over}
@@ -45,29 +46,30 @@ abbrev Timed : ℕ → Outcome Frame → Outcome Event
 Timed t m = andThen m (λ x r. ok (record { time = t; kind = kindIn x }) r)
 
 -- the status in force after an event that was read is the one that its kind gives
-found : (n t f : ℕ) (l : List ℕ) (m : Outcome Frame) (e : EventKind) (p st : ℕ) → Bytes l → readFrame f l ≡ m → frameStep n m ≡ Found e p st
-    → Read (record { 0 = t }) e p st ≡ eventStep n (Timed t m)
-unfolding frameStep frameAt eventStep andThen
-found n t f l (ok x r) e p st bs come q =
+found : (n t f b y z : ℕ) (l : List ℕ) (m : Outcome Frame) (e : EventKind) (p st : ℕ) → Bytes l → readFrame f l ≡ m → padded y (frameStep n m) ≡ Found e p st z
+    → Read (record { 0 = t }) e p st (b + z) ≡ eventStep n (b + y) (Timed t m)
+unfolding frameStep frameAt padded eventStep andThen
+found n t f b y z l (ok x r) e p st bs come q =
+    let q0 : y ≡ z = cc in
     let q1 : kindAt (n - length r) (kindIn x) ≡ e = cc in
     let q2 : n - length r ≡ p = cc in
     let q3 : after x ≡ st = cc in
     let q4 : frame (kindIn x) ≡ x = frame-back x (frame-sound f l x r bs come .valid) in
     cc
-found n t f l (refused k z) e p st bs come q = let w : _≡_ {A = ℕ} 0 1 = cc in absurd (omega arith)
+found n t f b y u l (refused k z) e p st bs come q = let w : _≡_ {A = ℕ} 0 1 = cc in absurd (omega arith)
 
-stopped : (n t : ℕ) (m : Outcome Frame) (k : ℕ) → frameStep n m ≡ Refused k → Stop k ≡ eventStep n (Timed t m)
-unfolding frameStep frameAt eventStep andThen
-stopped n t (ok x r) k q = let w : _≡_ {A = ℕ} 0 1 = cc in absurd (omega arith)
-stopped n t (refused j z) k q = let e : j ≡ k = cc in ap Stop (sym e)
+stopped : (n t y u : ℕ) (m : Outcome Frame) (k : ℕ) → padded y (frameStep n m) ≡ Refused k → Stop k ≡ eventStep n u (Timed t m)
+unfolding frameStep frameAt padded eventStep andThen
+stopped n t y u (ok x r) k q = let w : _≡_ {A = ℕ} 0 1 = cc in absurd (omega arith)
+stopped n t y u (refused j z) k q = let e : j ≡ k = cc in ap Stop (sym e)
 
 module _ (s : List ℕ) (prev f at : ℕ) where
-  pub event-bad : (k z : ℕ) → readVlq (drop at s) ≡ refused k z → Stop k ≡ eventStep (length s) (readEvent prev f (drop at s))
+  pub event-bad : (k z : ℕ) → readVlq (drop at s) ≡ refused k z → Stop k ≡ eventStep (length s) (eventPadding (drop at s)) (readEvent prev f (drop at s))
   unfolding readEvent andThen eventStep
   event-bad k z q = simp q
 
   module _ (v p : ℕ) (q : readVlq (drop at s) ≡ ok v (drop p s)) where
-    pub event-over : laterOf prev v ≡ Over → Stop 7 ≡ eventStep (length s) (readEvent prev f (drop at s))
+    pub event-over : laterOf prev v ≡ Over → Stop 7 ≡ eventStep (length s) (eventPadding (drop at s)) (readEvent prev f (drop at s))
     unfolding readEvent andThen eventStep check
     event-over e = simp (q, later-over prev v e)
 
@@ -75,15 +77,19 @@ module _ (s : List ℕ) (prev f at : ℕ) where
     unfolding readEvent andThen check
     event-timed e = simp (q, e)
 
-    pub event-refused : (u : Time) (k : ℕ) → laterOf prev v ≡ At u → frameStep (length s) (readFrame f (drop p s)) ≡ Refused k
-        → Stop k ≡ eventStep (length s) (readEvent prev f (drop at s))
-    event-refused u k e h = let (b, w) = later-at prev v u e in rw (event-timed b) (stopped (length s) (prev + v) (readFrame f (drop p s)) k h)
+    pub event-refused : (u : Time) (k : ℕ) → laterOf prev v ≡ At u → padded (framePadding (drop p s)) (frameStep (length s) (readFrame f (drop p s))) ≡ Refused k
+        → Stop k ≡ eventStep (length s) (eventPadding (drop at s)) (readEvent prev f (drop at s))
+    event-refused u k e h = let (b, w) = later-at prev v u e in rw (event-timed b) (stopped (length s) (prev + v) _ _ (readFrame f (drop p s)) k h)
 
-    pub event-found : (u : Time) (e : EventKind) (n st : ℕ) → Bytes (drop p s) → laterOf prev v ≡ At u → frameStep (length s) (readFrame f (drop p s)) ≡ Found e n st
-        → Read u e n st ≡ eventStep (length s) (readEvent prev f (drop at s))
-    event-found u e n st bs l h =
+    pub event-found : (u : Time) (e : EventKind) (n st x y : ℕ) → vlqPadding (drop at s) ≡ x → Bytes (drop p s) → laterOf prev v ≡ At u
+        → padded (framePadding (drop p s)) (frameStep (length s) (readFrame f (drop p s))) ≡ Found e n st y
+        → Read u e n st (x + y) ≡ eventStep (length s) (eventPadding (drop at s)) (readEvent prev f (drop at s))
+    unfolding eventPadding restOf
+    event-found u e n st x y ex bs l h =
         let (b, w) = later-at prev v u l in
-        ap (λ z. Read z e n st) (sym w) ∙ found (length s) (prev + v) f (drop p s) _ e n st bs refl h ∙ ap (eventStep (length s)) (sym (event-timed b))
+        let sum : eventPadding (drop at s) ≡ x + framePadding (drop p s) = ap₂ (λ a c. a + framePadding (restOf c)) ex q in
+        ap (λ z. Read z e n st (x + y)) (sym w) ∙ found (length s) (prev + v) f x (framePadding (drop p s)) y (drop p s) _ e n st bs refl h
+        ∙ ap₂ (eventStep (length s)) (sym sum) (sym (event-timed b))
 
 -- ---- End_track to the code and to the reader
 

@@ -9,6 +9,8 @@ pub mod Layout
 pub mod Manner
 pub mod Outcome
 pub mod Reader
+pub mod Padding
+pub mod PaddingCases
 pub mod Readings
 pub mod Dates
 pub mod Step

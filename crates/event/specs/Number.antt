@@ -8,6 +8,13 @@ use Rattle.event.specs.Choice.{pick}
 pub data Width : Type 0 where
   w1 w2 w3 w4 : Width
 
+-- these, counted
+abbrev pub bytesIn : Width → ℕ
+bytesIn w1 = 1
+bytesIn w2 = 2
+bytesIn w3 = 3
+bytesIn w4 = 4
+
 -- the numbers that fit these bytes are those below this; "range 0..268,435,455"
 abbrev pub limit : Width → ℕ
 limit w1 = 128

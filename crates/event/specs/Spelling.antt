@@ -29,6 +29,15 @@ Spelled force (exclusive s d) (lengthIn w) = length d < limit w
 Spelled force (meta t d) (leftOut out) = ⊥
 Spelled force (meta t d) (lengthIn w) = length d < limit w
 
+-- "a status left out wherever permitted": where one that is equal is in force
+unfoldable pub LeavesOut : ℕ → Frame → Rest → Type 0
+LeavesOut force (channel1 s a) (leftOut out) = force ≡ s → out ≡ true
+LeavesOut force (channel1 s a) (lengthIn w) = Unit {0}
+LeavesOut force (channel2 s a b) (leftOut out) = force ≡ s → out ≡ true
+LeavesOut force (channel2 s a b) (lengthIn w) = Unit {0}
+LeavesOut force (exclusive s d) r = Unit {0}
+LeavesOut force (meta t d) r = Unit {0}
+
 -- the spelling of an event is permitted, after one at the Time prev, with the status force in force
 pub record Permitted (prev force : ℕ) (e : Event) (s : Spelling) : Type 0 where
   pub delta : e .time - prev < limit (s .delta)

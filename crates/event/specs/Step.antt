@@ -28,10 +28,10 @@ abbrev pub bytesFrom : ℕ → List ℕ → ℕ → List ℕ
 bytesFrom zero l i = []
 bytesFrom (suc k) l i = getD l i 0 ∷ bytesFrom k l (suc i)
 
--- a variable-length number and the place after it, or the number of the refusal
-unfoldable pub numberStep : ℕ → Outcome ℕ → NumberStep
-numberStep n (ok v r) = Value v (n - length r)
-numberStep n (refused k p) = Unread k
+-- a variable-length number, the place after it and its padding x, or the number of the refusal
+unfoldable pub numberStep : ℕ → ℕ → Outcome ℕ → NumberStep
+numberStep n x (ok v r) = Value v (n - length r) x
+numberStep n x (refused k p) = Unread k
 
 -- a data byte of a channel event and the place after it, or the number of the refusal
 unfoldable pub byteStep : ℕ → Outcome ℕ → ByteStep
@@ -84,19 +84,24 @@ endOf (KeySignature a b) = false
 endOf (SequencerSpecific a b) = false
 endOf (UnknownMeta a b c) = false
 
--- an event after its delta: kind and fields, the place after it, the status in force after it
+-- an event after its delta: kind and fields, the place after it, the status in force after it; its length's padding is told apart
 unfoldable pub frameAt : ℕ → Frame → FrameStep
-frameAt next x = Found (kindAt next (kindIn x)) next (after x)
+frameAt next x = Found (kindAt next (kindIn x)) next (after x) 0
 
 -- the same, or the number of the refusal
 unfoldable pub frameStep : ℕ → Outcome Frame → FrameStep
 frameStep n (ok x r) = frameAt (n - length r) x
 frameStep n (refused k p) = Refused k
 
--- an event: its Time besides
-unfoldable pub eventStep : ℕ → Outcome Event → EventStep
-eventStep n (ok e r) = Read (record { 0 = e .time }) (kindAt (n - length r) (e .kind)) (n - length r) (after (frame (e .kind)))
-eventStep n (refused k p) = Stop k
+-- with the padding x of its length
+unfoldable pub padded : ℕ → FrameStep → FrameStep
+padded x (Found k next status e) = Found k next status x
+padded x (Refused number) = Refused number
+
+-- an event: its Time besides, and the padding x of its delta and length
+unfoldable pub eventStep : ℕ → ℕ → Outcome Event → EventStep
+eventStep n x (ok e r) = Read (record { 0 = e .time }) (kindAt (n - length r) (e .kind)) (n - length r) (after (frame (e .kind))) x
+eventStep n x (refused k p) = Stop k
 
 -- the len bytes of s from the place start on, or none where they are not all there
 unfoldable pub dataAt : List ℕ → ℕ → ℕ → List ℕ

@@ -33,7 +33,12 @@ fn one(status: u8, a: u8, next: usize) -> FrameStep
         0..=0xCF => EventKind::Program { channel, number: a },
         0xD0..=0xFF => EventKind::ChannelAftertouch { channel, value: a },
     };
-    FrameStep::Found { kind, next, status }
+    FrameStep::Found {
+        kind,
+        next,
+        status,
+        padding: 0,
+    }
 }
 
 // The event of a status and two data bytes.
@@ -67,7 +72,12 @@ fn two(status: u8, a: u8, b: u8, next: usize) -> FrameStep
             value: 128 * (b as u16) + (a as u16),
         },
     };
-    FrameStep::Found { kind, next, status }
+    FrameStep::Found {
+        kind,
+        next,
+        status,
+        padding: 0,
+    }
 }
 
 fn one_byte(body: &[u8], at: usize, status: u8) -> FrameStep

@@ -144,10 +144,17 @@ pub struct DataPlace {
     pub len: usize,
 }
 
-// What reading a variable-length number answers: its value and the place after it, or a refusal.
+// What reading a variable-length number answers: its value, the place after it and its padding, which
+// is how many bytes it took above the fewest; or a refusal.
 pub enum NumberStep {
-    Value { value: u32, next: usize },
-    Unread { number: u8 },
+    Value {
+        value: u32,
+        next: usize,
+        padding: u32,
+    },
+    Unread {
+        number: u8,
+    },
 }
 
 // What reading a channel data byte answers.
@@ -156,26 +163,28 @@ pub enum ByteStep {
     Bad { number: u8 },
 }
 
-// What reading an event after its delta answers: the event, the place after it and the status
-// then in force (0: none), or a refusal.
+// What reading an event after its delta answers: the event, the place after it, the status then in
+// force (0: none) and the padding of its length (0 where it has none); or a refusal.
 pub enum FrameStep {
     Found {
         kind: EventKind,
         next: usize,
         status: u8,
+        padding: u32,
     },
     Refused {
         number: u8,
     },
 }
 
-// What reading an event with its delta answers.
+// What reading an event with its delta answers: its Time besides, and the padding of delta and length.
 pub enum EventStep {
     Read {
         time: Time,
         kind: EventKind,
         next: usize,
         status: u8,
+        padding: u32,
     },
     Stop {
         number: u8,

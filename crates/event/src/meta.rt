@@ -5,7 +5,8 @@ ghost use Prim.Native.Nat.{_+_, _≤_};
 ghost use lib.ListN.{length, drop};
 ghost use Rattle.event.specs.Meta.{kindOf};
 ghost use Rattle.event.specs.Reader.{lengthOk, readExclusive, metaData, readMeta};
-ghost use Rattle.event.specs.Step.{frameStep};
+ghost use Rattle.event.specs.Step.{frameStep, padded};
+ghost use Rattle.event.specs.Padding.{vlqPadding, metaPadding};
 ghost use Rattle.event.specs.declared.FrameStep.the-variants.{Found};
 use super::EventKind;
 use super::FrameStep;
@@ -16,29 +17,60 @@ use super::number::two_byte_number;
 
 // An event that leaves no status in force.
 fn silent(kind: EventKind, next: usize) -> FrameStep
-    ensures { λ r. ⌜ r ≡ Found kind next 0 ⌝ }
+    ensures { λ r. ⌜ r ≡ Found kind next 0 0 ⌝ }
 {
     FrameStep::Found {
         kind,
         next,
         status: 0,
+        padding: 0,
+    }
+}
+
+// The same answer with the padding of the event's length.
+fn with_padding(step: FrameStep, padding: u32) -> FrameStep
+    ensures { λ r. ⌜ r ≡ padded padding step ⌝ }
+{
+    match step {
+        FrameStep::Refused { number } => FrameStep::Refused { number },
+        FrameStep::Found {
+            kind,
+            next,
+            status,
+            padding: none,
+        } => FrameStep::Found {
+            kind,
+            next,
+            status,
+            padding,
+        },
     }
 }
 
 // A system exclusive event from its length on.
 pub fn exclusive_event(body: &[u8], at: usize, status: u8) -> FrameStep
-    ensures { λ r. ⌜ r ≡ frameStep (length (now (body .entry))) (readExclusive status (drop at (now (body .entry)))) ⌝ }
+    ensures { λ r. ⌜ r ≡ padded (vlqPadding (drop at (now (body .entry)))) (frameStep (length (now (body .entry))) (readExclusive status (drop at (now (body .entry))))) ⌝ }
 {
     match read_number(body, at) {
         NumberStep::Unread { number } => FrameStep::Refused { number },
-        NumberStep::Value { value, next: start } => {
+        NumberStep::Value {
+            value,
+            next: start,
+            padding,
+        } => {
             let len = value as usize;
             if body.len() - start < len {
                 return FrameStep::Refused { number: 6 };
             }
             match status {
-                0xF0 => silent(EventKind::SystemExclusive { start, len }, start + len),
-                _ => silent(EventKind::SystemExclusivePacket { start, len }, start + len),
+                0xF0 => with_padding(
+                    silent(EventKind::SystemExclusive { start, len }, start + len),
+                    padding,
+                ),
+                _ => with_padding(
+                    silent(EventKind::SystemExclusivePacket { start, len }, start + len),
+                    padding,
+                ),
             }
         }
     }
@@ -199,7 +231,7 @@ fn meta_value(body: &[u8], t: u8, start: usize, len: usize) -> FrameStep
 
 // A meta event from its type on.
 pub fn meta_event(body: &[u8], at: usize) -> FrameStep
-    ensures { λ r. ⌜ r ≡ frameStep (length (now (body .entry))) (readMeta (drop at (now (body .entry)))) ⌝ }
+    ensures { λ r. ⌜ r ≡ padded (metaPadding (drop at (now (body .entry)))) (frameStep (length (now (body .entry))) (readMeta (drop at (now (body .entry))))) ⌝ }
 {
     if body.len() <= at {
         return FrameStep::Refused { number: 6 };
@@ -210,13 +242,17 @@ pub fn meta_event(body: &[u8], at: usize) -> FrameStep
     }
     match read_number(body, at + 1) {
         NumberStep::Unread { number } => FrameStep::Refused { number },
-        NumberStep::Value { value, next: start } => {
+        NumberStep::Value {
+            value,
+            next: start,
+            padding,
+        } => {
             if length_ok(t, value) {
                 let len = value as usize;
                 if body.len() - start < len {
                     return FrameStep::Refused { number: 6 };
                 }
-                return meta_value(body, t, start, len);
+                return with_padding(meta_value(body, t, start, len), padding);
             }
             FrameStep::Refused { number: 10 }
         }

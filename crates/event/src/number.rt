@@ -4,14 +4,31 @@ ghost use lib.ListN.{length, drop, getD};
 ghost use Rattle.event.specs.Bytes.{number};
 ghost use Rattle.event.specs.Reader.{readVlq};
 ghost use Rattle.event.specs.Step.{bytesFrom, numberStep, dataAt};
+ghost use Rattle.event.specs.Choice.{pick};
+ghost use Rattle.event.specs.Padding.{vlqPadding};
+ghost use Prim.Native.Nat.{_+_, _≤_};
+ghost use lib.Dec.{eqb};
 use super::NumberStep;
 
+// The padding of a number of which so much has come: one more where that is 0, since 80h came then and nothing else.
+fn padding_after(acc: u32, padding: u32) -> u32
+    requires { ⌜ padding ≤ 4 ⌝ }
+    ensures { λ r. ⌜ r ≡ pick (eqb acc 0) (padding + 1) padding ⌝ }
+{
+    if acc == 0 {
+        return padding + 1;
+    }
+    padding
+}
+
+// A variable-length number, and how many bytes it takes above the fewest: its leading 80h bytes.
 pub fn read_number(body: &[u8], at: usize) -> NumberStep
-    ensures { λ r. ⌜ r ≡ numberStep (length (now (body .entry))) (readVlq (drop at (now (body .entry)))) ⌝ }
+    ensures { λ r. ⌜ r ≡ numberStep (length (now (body .entry))) (vlqPadding (drop at (now (body .entry)))) (readVlq (drop at (now (body .entry)))) ⌝ }
 {
     let mut left: usize = 4;
     let mut acc: u32 = 0;
     let mut p = at;
+    let mut padding: u32 = 0;
     while 0 < left {
         if body.len() <= p {
             return NumberStep::Unread { number: 6 };
@@ -19,12 +36,16 @@ pub fn read_number(body: &[u8], at: usize) -> NumberStep
         let b = body[p] as u32;
         p += 1;
         if b < 128 {
+            let value = acc * 128 + b;
             return NumberStep::Value {
-                value: acc * 128 + b,
+                value,
                 next: p,
+                padding,
             };
         }
-        acc = acc * 128 + (b - 128);
+        let low = b - 128;
+        acc = acc * 128 + low;
+        padding = padding_after(acc, padding);
         left -= 1;
     }
     NumberStep::Unread { number: 5 }

@@ -2,7 +2,8 @@
 ghost use mathlib.Core.Path.{_≡_};
 ghost use lib.ListN.{length, drop};
 ghost use Rattle.event.specs.Reader.{readFrame, readEvent};
-ghost use Rattle.event.specs.Step.{frameStep, eventStep, endOf, placeOf};
+ghost use Rattle.event.specs.Step.{frameStep, padded, eventStep, endOf, placeOf};
+ghost use Rattle.event.specs.Padding.{framePadding, eventPadding};
 use super::DataPlace;
 use super::Delta;
 use super::EventKind;
@@ -18,7 +19,7 @@ use super::number::read_number;
 
 // An event after its delta, from its status on; status is the one in force.
 fn after_delta(body: &[u8], at: usize, status: u8) -> FrameStep
-    ensures { λ r. ⌜ r ≡ frameStep (length (now (body .entry))) (readFrame status (drop at (now (body .entry)))) ⌝ }
+    ensures { λ r. ⌜ r ≡ padded (framePadding (drop at (now (body .entry)))) (frameStep (length (now (body .entry))) (readFrame status (drop at (now (body .entry))))) ⌝ }
 {
     if body.len() <= at {
         return FrameStep::Refused { number: 6 };
@@ -40,20 +41,33 @@ fn after_delta(body: &[u8], at: usize, status: u8) -> FrameStep
 
 // The event at a place of a track's body, after the Time so far, with the status in force (0: none).
 pub fn read_event(body: &[u8], at: usize, time: Time, status: u8) -> EventStep
-    ensures { λ r. ⌜ r ≡ eventStep (length (now (body .entry))) (readEvent (time .0) status (drop at (now (body .entry)))) ⌝ }
+    ensures { λ r. ⌜ r ≡ eventStep (length (now (body .entry))) (eventPadding (drop at (now (body .entry)))) (readEvent (time .0) status (drop at (now (body .entry)))) ⌝ }
 {
     match read_number(body, at) {
         NumberStep::Unread { number } => EventStep::Stop { number },
-        NumberStep::Value { value, next: p } => match time.later(Delta(value)) {
+        NumberStep::Value {
+            value,
+            next: p,
+            padding: before,
+        } => match time.later(Delta(value)) {
             Later::Over => EventStep::Stop { number: 7 },
             Later::At(t) => match after_delta(body, p, status) {
                 FrameStep::Refused { number } => EventStep::Stop { number },
-                FrameStep::Found { kind, next, status } => EventStep::Read {
-                    time: t,
+                FrameStep::Found {
                     kind,
                     next,
                     status,
-                },
+                    padding: after,
+                } => {
+                    let padding = before + after;
+                    EventStep::Read {
+                        time: t,
+                        kind,
+                        next,
+                        status,
+                        padding,
+                    }
+                }
             },
         },
     }

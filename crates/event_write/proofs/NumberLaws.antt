@@ -3,15 +3,12 @@ use mathlib.Core.Path.{_≡_}
 use Prim.Native.Nat.{ℕ, _%_, _<_, _≤_}
 use native.Mathlib.Omega.{arith}
 use lib.ListN.{length}
-use Rattle.event.specs.Number.{Width, w1, w2, w3, w4, vlq, least}
+use Rattle.event.specs.Number.{Width, vlq, least}
+use Rattle.event.proofs.NumberLaws.{vlq-length, bytes-most}
 use Rattle.event_write.specs.Head.{fewest}
 
 pub width-length : (w : Width) (v : ℕ) → length (vlq w v) ≤ 4
-unfolding vlq
-width-length w1 v = omega arith
-width-length w2 v = omega arith
-width-length w3 v = omega arith
-width-length w4 v = omega arith
+width-length w v = omega (arith, vlq-length w v, bytes-most w)
 
 pub fewest-length : (n : ℕ) → length (fewest n) ≤ 4
 unfolding fewest

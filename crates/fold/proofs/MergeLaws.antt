@@ -14,6 +14,7 @@ use Rattle.event.specs.Layout.{layEvent}
 use Rattle.event.specs.Manner.{short, spellEvent}
 use Rattle.event.specs.Outcome.{Readable, valueOr}
 use Rattle.event.specs.Reader.{readEvent}
+use Rattle.event.specs.Padding.{eventPadding}
 use Rattle.event.specs.Step.{eventStep, kindAt, kindFrom}
 use Rattle.event.specs.declared.Time.{Time}
 use Rattle.event.specs.declared.EventKind.{EventKind}
@@ -195,12 +196,12 @@ module _ {f : List ℕ} {n : ℕ} {all : List (List Placed)} {old : List ℕ} {f
   opened i h l = stand-open f (getD ps i 0) (getD ts i 0) (getD ss i 0) (getD (g .left) i []) (g .rows .standing i h) (l .left h .1)
 
   -- the event is read again at its place, after the Time 0
-  module _ (i : ℕ) (h : i < n) (l : Least n ts ss n i) {x : EventStep} (e : x ≡ eventStep (length f) (readEvent 0 (getD ss i 0) (drop (getD ps i 0) f))) where
+  module _ (i : ℕ) (h : i < n) (l : Least n ts ss n i) {x : EventStep} (e : x ≡ eventStep (length f) (eventPadding (drop (getD ps i 0) f)) (readEvent 0 (getD ss i 0) (drop (getD ps i 0) f))) where
     pub not-stopped : {k : ℕ} → x ≡ Stop k → ⊥
     not-stopped {k} given = let o = opened i h l in no-stop f (getD ps i 0) (o .prev) (getD ss i 0) (o .first) k x bs (o .link) e given
 
-    pub taken-here : {u : Time} {k : EventKind} {q st : ℕ} → x ≡ Read u k q st → Taken f k q st (opened i h l .first)
-    taken-here {u} {k} {q} {st} given =
+    pub taken-here : {u : Time} {k : EventKind} {q st y : ℕ} → x ≡ Read u k q st y → Taken f k q st (opened i h l .first)
+    taken-here {u} {k} {q} {st} {y} given =
         let o = opened i h l in
         taken f (getD ps i 0) (o .prev) (getD ss i 0) (o .first) u k q st bs (o .link)
         (event-came f (getD ps i 0) 0 (getD ss i 0) bs (omega (arith, o .link .later, o .link .inside)) e given)
@@ -244,7 +245,7 @@ module _ {f : List ℕ} {n : ℕ} {all : List (List Placed)} {old : List ℕ} {f
           omega (arith, g .remains .place, ap length left-is, length-append Item (eventsIn short (getD ts i 0) st (foldedTrack (tracksOf Left))), wr .place),
         )
 
-    pub going-on : (row : Row) → n ≤ length ps → n ≤ length ts → n ≤ length ss → row ≡ rowOf q (getD ts i 0) st (eventStep (length f) (readEvent (getD ts i 0) st (drop q f)))
+    pub going-on : (row : Row) → n ≤ length ps → n ≤ length ts → n ≤ length ss → row ≡ rowOf q (getD ts i 0) st (eventStep (length f) (eventPadding (drop q f)) (readEvent (getD ts i 0) st (drop q f)))
         → (z : ℕ) (new : List ℕ) (next′ : ℕ) → z ≡ getD ts i 0 - last → Written out next (headBytes short force z k ++ dataOf (kindFrom f k)) new next′
         → Going f n all old from whole new next′ (getD ts i 0) st (set ps i (row .place)) (set ts i (row .time)) (set ss i (row .status)) ps₀ ts₀ ss₀
     going-on row a b c e z new next′ d written =

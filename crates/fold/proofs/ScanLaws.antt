@@ -11,6 +11,7 @@ use lib.ListN.{length, drop}
 use Rattle.event.specs.Bytes.{Bytes}
 use Rattle.event.specs.Outcome.{check, Readable}
 use Rattle.event.specs.Reader.{readEvent}
+use Rattle.event.specs.Padding.{eventPadding}
 use Rattle.event.specs.Step.{eventStep, endOf, kindFrom}
 use Rattle.event.specs.declared.Time.{Time}
 use Rattle.event.specs.declared.EventKind.{EventKind}
@@ -61,8 +62,8 @@ pub record Scanning (body : List ℕ) (base at t force : ℕ) : Type 0 where
 pub scan-first : (body : List ℕ) (base : ℕ) → Readable (readAll 0 0 0 body) → Scanning body base 0 0 0
 scan-first body base h = record { readable = h; same = ap (λ z. trackFree z fine) (met-all body base) }
 
-module _ {body : List ℕ} {base at t force : ℕ} {u : Time} {k : EventKind} {q st : ℕ} (s : Scanning body base at t force) (bs : Bytes body) (h : at ≤ length body)
-    (answer : eventStep (length body) (readEvent t force (drop at body)) ≡ Read u k q st) where
+module _ {body : List ℕ} {base at t force : ℕ} {u : Time} {k : EventKind} {q st y : ℕ} (s : Scanning body base at t force) (bs : Bytes body) (h : at ≤ length body)
+    (answer : eventStep (length body) (eventPadding (drop at body)) (readEvent t force (drop at body)) ≡ Read u k q st y) where
   came : Came body at t force u k q st
   came = event-came body at t force bs h refl answer
 

@@ -15,6 +15,7 @@ use Rattle.event.specs.Frame.{frame, after}
 use Rattle.event.specs.Layout.{layEvent}
 use Rattle.event.specs.Outcome.{ok}
 use Rattle.event.specs.Reader.{readEvent}
+use Rattle.event.specs.Padding.{eventPadding}
 use Rattle.event.specs.Step.{eventStep, kindFrom, kindAt}
 use Rattle.event.specs.declared.Time.{Time}
 use Rattle.event.specs.declared.EventKind.{EventKind}
@@ -60,7 +61,7 @@ never-one (unknownMeta t d) z = omega arith
 -- ---- the row made by row_at stands
 
 stands-with : (f : List ℕ) (at prev force : ℕ) (ms : List Placed) → (force ≡ 1 → ⊥) → Chain f at prev force ms
-    → let row : Row = rowOf at prev force (eventStep (length f) (readEvent prev force (drop at f))) in Stand f (row .place) (row .time) (row .status) ms
+    → let row : Row = rowOf at prev force (eventStep (length f) (eventPadding (drop at f)) (readEvent prev force (drop at f))) in Stand f (row .place) (row .time) (row .status) ms
 unfolding Chain rowOf eventStep firstTime firstStatus
 stands-with f at prev force [] h c = absurd c
 stands-with f at prev force (m ∷ ms) h c =
@@ -75,7 +76,7 @@ stands-with f at prev force (m ∷ ms) h c =
     })
 
 pub row-stands : (f : List ℕ) (at prev force : ℕ) (ms : List Placed) (row : Row) → (force ≡ 1 → ⊥) → Chain f at prev force ms
-    → row ≡ rowOf at prev force (eventStep (length f) (readEvent prev force (drop at f))) → Stand f (row .place) (row .time) (row .status) ms
+    → row ≡ rowOf at prev force (eventStep (length f) (eventPadding (drop at f)) (readEvent prev force (drop at f))) → Stand f (row .place) (row .time) (row .status) ms
 row-stands f at prev force ms row h c e = subst (λ (r : Row). Stand f (r .place) (r .time) (r .status) ms) (sym e) (stands-with f at prev force ms h c)
 
 -- ---- a row that has an event left
@@ -159,10 +160,10 @@ taken f at prev force m u k n st bs link c =
       status = ap (λ z. after (frame z)) (sym same) ∙ c .status;
     })
 
-pub no-stop : (f : List ℕ) (at prev force : ℕ) (m : Placed) (k : ℕ) (x : EventStep) → Bytes f → Link f at prev force m → x ≡ eventStep (length f) (readEvent 0 force (drop at f)) → x ≡ Stop k → ⊥
+pub no-stop : (f : List ℕ) (at prev force : ℕ) (m : Placed) (k : ℕ) (x : EventStep) → Bytes f → Link f at prev force m → x ≡ eventStep (length f) (eventPadding (drop at f)) (readEvent 0 force (drop at f)) → x ≡ Stop k → ⊥
 unfolding eventStep
 no-stop f at prev force m k x bs link e g =
-    let p = sym g ∙ e ∙ ap (eventStep (length f)) (read-zero f at prev force m bs link) in
+    let p = sym g ∙ e ∙ ap (eventStep (length f) (eventPadding (drop at f))) (read-zero f at prev force m bs link) in
     let z : _≡_ {A = ℕ} 0 1 = cc in omega arith
 
 -- ---- one row changes

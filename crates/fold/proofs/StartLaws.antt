@@ -10,6 +10,7 @@ use borrow.Author.Tests.{ltb-true, ltb-false}
 use Rattle.event.specs.Bytes.{Bytes}
 use Rattle.event.specs.Outcome.{Readable}
 use Rattle.event.specs.Reader.{readEvent}
+use Rattle.event.specs.Padding.{eventPadding}
 use Rattle.event.specs.Step.{eventStep}
 use Rattle.event.proofs.ChoiceLaws.{by-test}
 use Rattle.smf.specs.Reader.{readChunk}
@@ -50,7 +51,7 @@ first-of l i x xs e =
     (ap (λ k. getD l k []) (sym z) ∙ sym (getD-drop i l 0 []) ∙ ap (λ k. getD k 0 []) e, sym (drop-drop 1 i l) ∙ ap (drop 1) e)
 
 pub start-more : (f : List ℕ) (n first at i a b : ℕ) (ps ts ss ps₀ ts₀ ss₀ : List ℕ) (row : Row) → Bytes f → i < n → n ≤ length ps → n ≤ length ts → n ≤ length ss
-    → chunkStep (length f) (readChunk at (drop at f)) ≡ Body a b → row ≡ rowOf a 0 0 (eventStep (length f) (readEvent 0 0 (drop a f)))
+    → chunkStep (length f) (readChunk at (drop at f)) ≡ Body a b → row ≡ rowOf a 0 0 (eventStep (length f) (eventPadding (drop a f)) (readEvent 0 0 (drop a f)))
     → Starting f n first at i ps ts ss ps₀ ts₀ ss₀ → Starting f n first b (i + 1) (set ps i (row .place)) (set ts i (row .time)) (set ss i (row .status)) ps₀ ts₀ ss₀
 start-more f n first at i a b ps ts ss ps₀ ts₀ ss₀ row bs h u v w e r s =
     let down : n - i ≡ suc (n - (i + 1)) = omega arith in

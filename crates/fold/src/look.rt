@@ -44,6 +44,7 @@ fn scan_track(body: &[u8], base: usize) -> Answer
                 kind,
                 next,
                 status: s,
+                padding,
             } => {
                 if is_prefix_or_port(kind) {
                     return Answer::refusal(33, base + at);

@@ -68,6 +68,7 @@ pub fn merge(
                 kind,
                 next: n,
                 status: s,
+                padding,
             } => {
                 next = put_event(out, next, step(time, last), kind, force, file, true);
                 let row = row_at(file, n, time, s);

@@ -5,6 +5,7 @@ ghost use mathlib.Core.List.{_++_};
 ghost use Prim.Native.Nat.{_≤_, min};
 ghost use lib.ListN.{length, drop, replicate};
 ghost use Rattle.event.specs.Reader.{readEvent};
+ghost use Rattle.event.specs.Padding.{eventPadding};
 ghost use Rattle.event.specs.Step.{eventStep};
 ghost use Rattle.smf.specs.Code.Chain.{placedFrom};
 ghost use Rattle.fold_piece.specs.FoldAnswer.{rowsLent};
@@ -35,7 +36,7 @@ pub fn rows_lent(places: &[usize], times: &[u32], statuses: &[u8]) -> usize
 
 // The row of a track whose next event stands at a place, after a Time, with a status in force.
 pub fn row_at(file: &[u8], at: usize, time: Time, status: u8) -> Row
-    ensures { λ r. ⌜ r ≡ rowOf at (time .0) status (eventStep (length (now (file .entry))) (readEvent (time .0) status (drop at (now (file .entry))))) ⌝ }
+    ensures { λ r. ⌜ r ≡ rowOf at (time .0) status (eventStep (length (now (file .entry))) (eventPadding (drop at (now (file .entry)))) (readEvent (time .0) status (drop at (now (file .entry))))) ⌝ }
 {
     match event::read::read_event(file, at, time, status) {
         EventStep::Stop { number } => {
@@ -51,6 +52,7 @@ pub fn row_at(file: &[u8], at: usize, time: Time, status: u8) -> Row
             kind,
             next,
             status: s,
+            padding,
         } => {
             let t = u.0;
             if event::read::is_end(kind) {

@@ -18,7 +18,17 @@ fn numbers(list: &[u32; 4]) {
     io::write_all(STDOUT_FILENO, b"\n");
 }
 
-// One file: number, place and length of the answer, then both lists, which hold sevens before.
+// Number, place and length of the answer.
+fn answered(path: &[u8], answer: smf::Answer) {
+    io::write_all(STDOUT_FILENO, path);
+    io::write_all(STDOUT_FILENO, b": ");
+    number(answer.number as u64);
+    number(answer.place as u64);
+    number(answer.length as u64);
+    io::write_all(STDOUT_FILENO, b"\n");
+}
+
+// One file: the answer, then the three lists, which hold sevens before.
 fn list_file(path: &[u8]) {
     let mut buffer = io::large_buffer();
     let fd = os::open_read(path);
@@ -30,15 +40,33 @@ fn list_file(path: &[u8]) {
     libc::close(fd);
     let mut ends = [7u32; 4];
     let mut counts = [7u32; 4];
-    let answer = smf::list::list_tracks(&buffer[..got], &mut ends, &mut counts);
-    io::write_all(STDOUT_FILENO, path);
-    io::write_all(STDOUT_FILENO, b": ");
-    number(answer.number as u64);
-    number(answer.place as u64);
-    number(answer.length as u64);
-    io::write_all(STDOUT_FILENO, b"\n");
+    let mut padding = [7u32; 4];
+    let answer = smf::list::list_tracks(&buffer[..got], &mut ends, &mut counts, &mut padding);
+    answered(path, answer);
     numbers(&ends);
     numbers(&counts);
+    numbers(&padding);
+}
+
+// The same with a third list of one number.
+fn list_short(path: &[u8]) {
+    let mut buffer = io::large_buffer();
+    let fd = os::open_read(path);
+    if fd < 0 {
+        os::fail(path);
+        return;
+    }
+    let got = io::read_full(fd, &mut buffer);
+    libc::close(fd);
+    let mut ends = [7u32; 4];
+    let mut counts = [7u32; 4];
+    let mut padding = [7u32; 1];
+    let answer = smf::list::list_tracks(&buffer[..got], &mut ends, &mut counts, &mut padding);
+    answered(path, answer);
+    numbers(&ends);
+    numbers(&counts);
+    entry(padding[0]);
+    io::write_all(STDOUT_FILENO, b"\n");
 }
 
 fn main() {
@@ -51,4 +79,7 @@ fn main() {
     list_file(b"five_tracks.mid");
     list_file(b"after_end_track.mid");
     list_file(b"empty.mid");
+    list_file(b"padded.mid");
+    list_short(b"padded.mid");
+    list_short(b"example.mid");
 }

@@ -47,6 +47,7 @@ fn put_events(out: &mut [u8], from: usize, body: &[u8], track: u32, sheet: bool)
                 kind,
                 next: n,
                 status: s,
+                padding,
             } => {
                 next = put_event_line(out, next, track, t, kind, body, sheet);
                 if event::read::is_end(kind) {

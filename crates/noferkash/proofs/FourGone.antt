@@ -14,10 +14,12 @@ use Rattle.smf.specs.Piece.{Piece}
 use Rattle.smf.specs.Manner.{fileOf}
 use Rattle.smf.specs.Reader.{readFile, fileLimit}
 use Rattle.smf.specs.Answer.{success, roomNeeded, verdict}
+use Rattle.smf.specs.Listing.{hasRoom, listAnswer}
 use Rattle.smf.specs.Writing.{writeAnswer, shortAnswer}
 use Rattle.smf.specs.declared.Answer.{Answer}
 use Rattle.smf.proofs.RefusalLaws.{file-fair}
 use Rattle.smf.proofs.WritingLaws.{Fits28}
+use Rattle.smf.proofs.ListAnswerLaws.{list-fits}
 use Rattle.smf_write.proofs.AnswerLaws as tidying
 use Rattle.fold_piece.specs.FoldAnswer.{mostTracks}
 use Rattle.fold_piece.proofs.AnswerLaws as folding
@@ -49,6 +51,11 @@ unfolding writtenAnswer
 written-number w room m (ok p r) f = room-number room (length (writtenAs w p))
 written-number w room m (refused n q) f = f .0 .2
 
+list-number : (n k o m : ℕ) (x : Outcome Piece) → Fair 13 m x → listAnswer n k o x .number ≡ 4 → ⊥
+unfolding listAnswer pick
+list-number n k o m (ok p r) f = by-test (hasRoom n k o (length (p .tracks))) (λ e. rw e (omega arith)) (λ e. rw e (omega arith))
+list-number n k o m (refused j q) f = f .0 .2
+
 short-number : (room m : ℕ) (x : Outcome Piece) → Fair 13 m x → shortAnswer room x .number ≡ 4 → ⊥
 unfolding shortAnswer writeAnswer pick
 short-number room m (ok p r) f =
@@ -65,6 +72,10 @@ four-gone =
       check = λ f r bs c. unsaid r _ c (verdict-fits f bs) (verdict-number (length f) (readFile f) (file-fair f bs));
       text = λ f old r new bs c. written asText f old r bs (c .0);
       tidy = λ f old r new bs c. unsaid r _ (c .0) (tidying.answer-fits (length old) f bs) (short-number (length old) (length f) (readFile f) (file-fair f bs));
+      list =
+          λ f ends counts padding r ends' counts' padding' bs c.
+          unsaid r _ (c .0) (list-fits (length ends) (length counts) (length padding) f bs)
+          (list-number (length ends) (length counts) (length padding) (length f) (readFile f) (file-fair f bs));
       fold = λ f old r new bs c. unsaid r _ (c .0) (folding.answer-fits (length old) mostTracks f bs) (folding.number-none (length old) mostTracks f bs .0);
       sheet = λ f old r new bs c. written asSheet f old r bs (c .0);
     }

@@ -1,10 +1,11 @@
--- What each exported function promises of a call: the number r that it answers and what the lent room, which held old, holds afterwards.
+-- What each exported function promises of a call: the number r that it answers and what the lent room, which held old, or lists, hold afterwards.
 use mathlib.Core.Path.{_≡_}
 use Prim.Native.Nat.{ℕ}
 use mathlib.Core.List.{List}
 use lib.ListN.{length}
 use Rattle.smf.specs.Reader.{readFile}
 use Rattle.smf.specs.Answer.{verdict}
+use Rattle.smf.specs.Listing.{endTimes, eventCounts, paddingsIn, listAnswer, listLeaves}
 use Rattle.midicsv_read.specs.ToFile.{fileAnswer, fileLeaves}
 use Rattle.midicsv.specs.Show.{asText, asSheet}
 use Rattle.midicsv_write.specs.ToText.{writtenAnswer, writtenLeaves}
@@ -28,6 +29,14 @@ FileCall s manner old r new = (r ≡ packed (fileAnswer s manner (length old))) 
 -- noferkash_tidy on the file f
 abbrev pub TidyCall : List ℕ → List ℕ → ℕ → List ℕ → Type 0
 TidyCall f old r new = (r ≡ packed (shortAnswer (length old) (readFile f))) × (new ≡ shortLeaves (readFile f) old)
+
+-- noferkash_list_tracks on the file f, with three lists, which held the first three and hold the last three
+abbrev pub ListCall : List ℕ → List ℕ → List ℕ → List ℕ → ℕ → List ℕ → List ℕ → List ℕ → Type 0
+ListCall f ends counts padding r ends' counts' padding' =
+    (r ≡ packed (listAnswer (length ends) (length counts) (length padding) (readFile f)))
+    × (ends' ≡ listLeaves endTimes (length ends) (length counts) (length padding) (readFile f) ends)
+    × (counts' ≡ listLeaves eventCounts (length ends) (length counts) (length padding) (readFile f) counts)
+    × (padding' ≡ listLeaves (paddingsIn f) (length ends) (length counts) (length padding) (readFile f) padding)
 
 -- noferkash_fold on the file f: it has a row of its own for each of the most tracks
 abbrev pub FoldCall : List ℕ → List ℕ → ℕ → List ℕ → Type 0

@@ -2,8 +2,9 @@
 ghost use mathlib.Core.Path.{_≡_};
 ghost use Prim.Native.Nat.{_<_};
 ghost use Rattle.smf.specs.Demand3.{Demand3};
-ghost use Rattle.noferkash.specs.Packed.{packed, numberOf};
-ghost use Rattle.noferkash.specs.Calls.{CheckCall, TextCall, FileCall, TidyCall, FoldCall, SheetCall, TableCall};
+ghost use Rattle.smf.specs.Listing.{PaddingTold};
+ghost use Rattle.noferkash.specs.Packed.{packed, numberOf, lengthOf};
+ghost use Rattle.noferkash.specs.Calls.{CheckCall, TextCall, FileCall, TidyCall, ListCall, FoldCall, SheetCall, TableCall};
 
 // The answer as one number of 64 bits.
 fn pack(a: smf::Answer) -> u64
@@ -42,6 +43,18 @@ pub extern "C" fn noferkash_tidy(file: &[u8], out: &mut [u8]) -> u64
     ensures { λ r. ⌜ TidyCall (now (file .entry)) (now (out .entry)) r (now (out .exit)) ⌝ }
 {
     pack(smf_write::tidy::tidy(file, out))
+}
+
+#[no_mangle]
+pub extern "C" fn noferkash_list_tracks(
+    file: &[u8],
+    ends: &mut [u32],
+    counts: &mut [u32],
+    padding: &mut [u32],
+) -> u64
+    ensures { λ r. ⌜ ListCall (now (file .entry)) (now (ends .entry)) (now (counts .entry)) (now (padding .entry)) r (now (ends .exit)) (now (counts .exit)) (now (padding .exit)) ⌝ ∗ ⌜ PaddingTold (now (file .entry)) (numberOf r) (lengthOf r) (now (padding .exit)) ⌝ }
+{
+    pack(smf::list::list_tracks(file, ends, counts, padding))
 }
 
 #[no_mangle]

@@ -13,6 +13,7 @@ use Rattle.event.specs.Layout.{layEvent}
 use Rattle.event.specs.Outcome.{Outcome, ok, refused, andThen, placed}
 use Rattle.event.specs.Reader.{readEvent}
 use Rattle.event.specs.Spelling.{Spelling, Permitted}
+use Rattle.event.specs.Padding.{eventPadding}
 use Rattle.event.specs.Step.{kindAt, kindFrom, endOf, eventStep}
 use Rattle.event.specs.declared.Time.{Time}
 use Rattle.event.specs.declared.EventKind.{EventKind}
@@ -41,10 +42,10 @@ pub record Came (s : List ℕ) (at t f : ℕ) (u : Time) (k : EventKind) (q st :
   pub spelling : Spelling
   pub permitted : Permitted t f event spelling
 
-came-of : (s : List ℕ) (at t f : ℕ) (u : Time) (k : EventKind) (q st : ℕ) (m : Outcome Event) → Bytes (drop at s) → at ≤ length s
-    → readEvent t f (drop at s) ≡ m → eventStep (length s) m ≡ Read u k q st → Came s at t f u k q st
+came-of : (s : List ℕ) (at t f : ℕ) (u : Time) (k : EventKind) (q st x y : ℕ) (m : Outcome Event) → Bytes (drop at s) → at ≤ length s
+    → readEvent t f (drop at s) ≡ m → eventStep (length s) x m ≡ Read u k q st y → Came s at t f u k q st
 unfolding eventStep
-came-of s at t f u k q st (ok e r) bs h come p =
+came-of s at t f u k q st x y (ok e r) bs h come p =
     let laid = event-sound t f (drop at s) e r bs come in
     let back : drop (length s - length r) s ≡ r = place s (layEvent t e (laid .spelling)) r at (laid .bytes) in
     let (shorter, br) = event-shorter t f (drop at s) e r bs come in
@@ -68,23 +69,33 @@ came-of s at t f u k q st (ok e r) bs h come p =
       spelling = laid .spelling;
       permitted = laid .permitted;
     }
-came-of s at t f u k q st (refused n z) bs h come p = let w : _≡_ {A = ℕ} 0 1 = cc in absurd (omega arith)
+came-of s at t f u k q st x y (refused n z) bs h come p = let w : _≡_ {A = ℕ} 0 1 = cc in absurd (omega arith)
 
 -- x is the answer
-pub event-came : {x : EventStep} {u : Time} {k : EventKind} {q st : ℕ} (s : List ℕ) (at t f : ℕ) → Bytes s → at ≤ length s
-    → x ≡ eventStep (length s) (readEvent t f (drop at s)) → x ≡ Read u k q st → Came s at t f u k q st
-event-came {x} {u} {k} {q} {st} s at t f bs h e given = came-of s at t f u k q st _ (bytes-drop s at bs) h refl (sym e ∙ given)
+pub event-came : {x : EventStep} {u : Time} {k : EventKind} {q st y : ℕ} (s : List ℕ) (at t f : ℕ) → Bytes s → at ≤ length s
+    → x ≡ eventStep (length s) (eventPadding (drop at s)) (readEvent t f (drop at s)) → x ≡ Read u k q st y → Came s at t f u k q st
+event-came {x} {u} {k} {q} {st} {y} s at t f bs h e given = came-of s at t f u k q st _ y _ (bytes-drop s at bs) h refl (sym e ∙ given)
 
-stopped : (n k : ℕ) (m : Outcome Event) → eventStep n m ≡ Stop k → (z : ℕ) × (m ≡ refused k z)
+padding-with : (n x : ℕ) (u : Time) (k : EventKind) (q st y : ℕ) (m : Outcome Event) → eventStep n x m ≡ Read u k q st y → x ≡ y
 unfolding eventStep
-stopped n k (ok e r) p = let w : _≡_ {A = ℕ} 0 1 = cc in absurd (omega arith)
-stopped n k (refused j z) p = (z, cc)
+padding-with n x u k q st y (ok e r) p = cc
+padding-with n x u k q st y (refused j z) p = let w : _≡_ {A = ℕ} 0 1 = cc in absurd (omega arith)
+
+-- and the bytes that it took above the fewest
+pub event-padding : {x : EventStep} {u : Time} {k : EventKind} {q st y : ℕ} (s : List ℕ) (at t f : ℕ) → x ≡ eventStep (length s) (eventPadding (drop at s)) (readEvent t f (drop at s)) → x ≡ Read u k q st y
+    → eventPadding (drop at s) ≡ y
+event-padding {x} {u} {k} {q} {st} {y} s at t f e given = padding-with (length s) _ u k q st y _ (sym e ∙ given)
+
+stopped : (n x k : ℕ) (m : Outcome Event) → eventStep n x m ≡ Stop k → (z : ℕ) × (m ≡ refused k z)
+unfolding eventStep
+stopped n x k (ok e r) p = let w : _≡_ {A = ℕ} 0 1 = cc in absurd (omega arith)
+stopped n x k (refused j z) p = (z, cc)
 
 -- ---- the events from that place on, which is called p in the file, as p' is the place after the event
 
-pub came-stop : {x : EventStep} {k : ℕ} (s : List ℕ) (at t f p : ℕ) → Bytes s → x ≡ eventStep (length s) (readEvent t f (drop at s)) → x ≡ Stop k → readAll p t f (drop at s) ≡ refused k p
+pub came-stop : {x : EventStep} {k : ℕ} (s : List ℕ) (at t f p : ℕ) → Bytes s → x ≡ eventStep (length s) (eventPadding (drop at s)) (readEvent t f (drop at s)) → x ≡ Stop k → readAll p t f (drop at s) ≡ refused k p
 unfolding andThen placed
-came-stop {x} {k} s at t f p bs e given = let (z, q) = stopped (length s) k _ (sym e ∙ given) in rw (all-step p t f (drop at s) (bytes-drop s at bs), q) refl
+came-stop {x} {k} s at t f p bs e given = let (z, q) = stopped (length s) _ k _ (sym e ∙ given) in rw (all-step p t f (drop at s) (bytes-drop s at bs), q) refl
 
 module _ {s : List ℕ} {at t f : ℕ} {u : Time} {k : EventKind} {q st : ℕ} (bs : Bytes s) (c : Came s at t f u k q st) (p p' : ℕ) (move : p' ≡ p + (q - at)) where
   came-all : readAll p t f (drop at s) ≡ goOn (endOf k) p' (c .event) (drop q s) (readAll p' (u .0) st (drop q s))

@@ -12,7 +12,7 @@ use Rattle.event.specs.Bytes.{Bytes, bigEndian}
 use Rattle.event.specs.Choice.{pick}
 use Rattle.event.specs.Event.{Event}
 use Rattle.event.specs.Frame.{noStatus}
-use Rattle.event.specs.Outcome.{Outcome, ok, refused, andThen, check}
+use Rattle.event.specs.Outcome.{Outcome, ok, refused, andThen, check, valueOr}
 use Rattle.event.specs.Reader.{readNumber}
 use Rattle.event.specs.declared.Time.{Time}
 use Rattle.event.proofs.ChoiceLaws.{by-test}
@@ -22,6 +22,7 @@ use Rattle.event.proofs.PlaceLaws.{place, place-back}
 use Rattle.smf.specs.Chunk.{trackTag}
 use Rattle.smf.specs.Layout.{layChunk, layChunks, layTrack}
 use Rattle.smf.specs.Reader.{readAll, readHead, findTrack, readChunk, readTrack, readTracks}
+use Rattle.smf.specs.Padding.{allPadding, trackPadding}
 use Rattle.smf.specs.Step.{chunkStep, lastTime, walkStep, trackStep, tracksStep}
 use Rattle.smf.specs.declared.ChunkStep.{ChunkStep}
 use Rattle.smf.specs.declared.ChunkStep.the-variants.{Body, BadChunk}
@@ -167,37 +168,42 @@ chunk-body s at a b bs e = body-came s at a b _ bs (chunk-there s at a b e) refl
 -- ---- a track
 
 abbrev T : List ℕ → ℕ → TrackStep
-T s at = trackStep (length s) (readTrack at (drop at s))
+T s at = trackStep (length s) (trackPadding at (drop at s)) (readTrack at (drop at s))
 
 pub track-bad-chunk : (s : List ℕ) (at k p : ℕ) → C s at ≡ BadChunk k p → BadTrack k p ≡ T s at
 unfolding readTrack andThen trackStep
 track-bad-chunk s at k p e = rw (chunk-bad (length s) k p _ e)
 
-walk-fault : (n k p : ℕ) (m : Outcome (List Event)) (l : List ℕ) → walkStep 0 0 m ≡ Fault k p → BadTrack k p ≡ trackStep n (andThen m (λ es r. ok es l))
+walk-fault : (n k p x z : ℕ) (m : Outcome (List Event)) (l : List ℕ) → walkStep 0 0 x m ≡ Fault k p → BadTrack k p ≡ trackStep n z (andThen m (λ es r. ok es l))
 unfolding walkStep trackStep andThen
-walk-fault n k p (ok es r) l e = let w : _≡_ {A = ℕ} 0 1 = cc in absurd (omega arith)
-walk-fault n k p (refused j z) l e = let a : j ≡ k = cc in let b : z ≡ p = cc in cc
+walk-fault n k p x y (ok es r) l e = let w : _≡_ {A = ℕ} 0 1 = cc in absurd (omega arith)
+walk-fault n k p x y (refused j z) l e = let a : j ≡ k = cc in let b : z ≡ p = cc in cc
 
-walk-whole : (n c : ℕ) (t : Time) (m : Outcome (List Event)) (l : List ℕ) → walkStep 0 0 m ≡ Whole t c → Track t c (n - length l) ≡ trackStep n (andThen m (λ es r. ok es l))
+walk-whole : (n c x y : ℕ) (t : Time) (m : Outcome (List Event)) (l : List ℕ) → walkStep 0 0 x m ≡ Whole t c y → Track t c (n - length l) y ≡ trackStep n x (andThen m (λ es r. ok es l))
 unfolding walkStep trackStep andThen
-walk-whole n c t (ok es r) l e =
+walk-whole n c x y t (ok es r) l e =
     let a : record { 0 = lastTime 0 es } ≡ t = cc in
     let b : 0 + length es ≡ c = cc in
-    ap₂ (λ x y. Track x y (n - length l)) (sym a) (omega arith)
-walk-whole n c t (refused j z) l e = let w : _≡_ {A = ℕ} 0 1 = cc in absurd (omega arith)
+    let d : x ≡ y = cc in
+    ap₂ (λ u v. Track u v (n - length l) y) (sym a) (omega arith) ∙ ap (Track (record { 0 = lastTime 0 es }) (length es) (n - length l)) (sym d)
+walk-whole n c x y t (refused j z) l e = let w : _≡_ {A = ℕ} 0 1 = cc in absurd (omega arith)
 
 module _ (s : List ℕ) (at a b : ℕ) (bs : Bytes s) (body : C s at ≡ Body a b) where
   walked : readTrack at (drop at s) ≡ andThen (readAll a 0 noStatus (take (b - a) (drop a s))) (λ es r. ok es (drop b s))
   unfolding readTrack andThen
   walked = let there = chunk-body s at a b bs body in rw (there .read, there .start)
 
-  pub track-fault : (k p : ℕ) → Fault k p ≡ walkStep 0 0 (readAll a 0 noStatus (take (b - a) (drop a s))) → BadTrack k p ≡ T s at
-  track-fault k p e = rw walked (walk-fault (length s) k p _ _ (sym e))
+  pub track-fault : (x k p : ℕ) → Fault k p ≡ walkStep 0 0 x (readAll a 0 noStatus (take (b - a) (drop a s))) → BadTrack k p ≡ T s at
+  track-fault x k p e = rw walked (walk-fault (length s) k p x _ _ _ (sym e))
 
-  pub track-whole : (t : Time) (c : ℕ) → Whole t c ≡ walkStep 0 0 (readAll a 0 noStatus (take (b - a) (drop a s))) → Track t c b ≡ T s at
-  track-whole t c e =
+  body-padding : trackPadding at (drop at s) ≡ allPadding 0 noStatus (take (b - a) (drop a s))
+  unfolding trackPadding valueOr andThen
+  body-padding = let there = chunk-body s at a b bs body in rw (there .read) refl
+
+  pub track-whole : (y : ℕ) (t : Time) (c : ℕ) → Whole t c y ≡ walkStep 0 0 (allPadding 0 noStatus (take (b - a) (drop a s))) (readAll a 0 noStatus (take (b - a) (drop a s))) → Track t c b y ≡ T s at
+  track-whole y t c e =
       let there = chunk-body s at a b bs body in
-      rw walked (ap (Track t c) (sym (place-back s b (there .inside))) ∙ walk-whole (length s) c t _ _ (sym e))
+      rw (walked, body-padding) (ap (λ z. Track t c z y) (sym (place-back s b (there .inside))) ∙ walk-whole (length s) c _ y t _ _ (sym e))
 
 -- ---- the tracks
 
@@ -206,16 +212,16 @@ unfolding tracksStep andThen
 tracks-cons n t (ok ts q) = refl
 tracks-cons n t (refused k p) = refl
 
-pub track-bad : (n k p : ℕ) (m : Outcome (List Event)) → trackStep n m ≡ BadTrack k p → m ≡ refused k p
+pub track-bad : (n x k p : ℕ) (m : Outcome (List Event)) → trackStep n x m ≡ BadTrack k p → m ≡ refused k p
 unfolding trackStep
-track-bad n k p (ok es r) e = let w : _≡_ {A = ℕ} 0 1 = cc in absurd (omega arith)
-track-bad n k p (refused j z) e = let a : j ≡ k = cc in let b : z ≡ p = cc in cc
+track-bad n x k p (ok es r) e = let w : _≡_ {A = ℕ} 0 1 = cc in absurd (omega arith)
+track-bad n x k p (refused j z) e = let a : j ≡ k = cc in let b : z ≡ p = cc in cc
 
 -- the track that the code was given
-track-came : {X : Type 0} (s : List ℕ) (at : ℕ) (t : Time) (c q : ℕ) (m : Outcome (List Event)) → Bytes s → at ≤ length s → readTrack at (drop at s) ≡ m → trackStep (length s) m ≡ Track t c q
+track-came : {X : Type 0} (s : List ℕ) (at : ℕ) (t : Time) (c q x y : ℕ) (m : Outcome (List Event)) → Bytes s → at ≤ length s → readTrack at (drop at s) ≡ m → trackStep (length s) x m ≡ Track t c q y
     → ((es : List Event) → readTrack at (drop at s) ≡ ok es (drop q s) → at ≤ q → q ≤ length s → record { 0 = lastTime 0 es } ≡ t → length es ≡ c → X) → X
 unfolding trackStep
-track-came s at t c q (ok es r) bs h come e k =
+track-came s at t c q x y (ok es r) bs h come e k =
     let laid = track-sound at (drop at s) es r (bytes-drop s at bs) come in
     let front : List ℕ = layChunks (laid .spelling .before) ++ layTrack es (laid .spelling .events) in
     let back : drop (length s - length r) s ≡ r = place s front r at (laid .bytes ∙ sym (append-assoc (layChunks (laid .spelling .before)) (layTrack es (laid .spelling .events)) r)) in
@@ -225,11 +231,20 @@ track-came s at t c q (ok es r) bs h come e k =
     let rest : r ≡ drop q s = cc in
     let size = track-size (drop at s) es r laid in
     k es (come ∙ ap (ok es) rest) (omega (arith, length-drop at s)) (omega arith) pt pc
-track-came s at t c q (refused n z) bs h come e k = let w : _≡_ {A = ℕ} 0 1 = cc in absurd (omega arith)
+track-came s at t c q x y (refused n z) bs h come e k = let w : _≡_ {A = ℕ} 0 1 = cc in absurd (omega arith)
 
-pub track-found : {X : Type 0} (s : List ℕ) (at : ℕ) (t : Time) (c q : ℕ) → Bytes s → at ≤ length s → T s at ≡ Track t c q
+pub track-found : {X : Type 0} {y : ℕ} (s : List ℕ) (at : ℕ) (t : Time) (c q : ℕ) → Bytes s → at ≤ length s → T s at ≡ Track t c q y
     → ((es : List Event) → readTrack at (drop at s) ≡ ok es (drop q s) → at ≤ q → q ≤ length s → record { 0 = lastTime 0 es } ≡ t → length es ≡ c → X) → X
-track-found s at t c q bs h e k = track-came s at t c q _ bs h refl e k
+track-found {X} {y} s at t c q bs h e k = track-came s at t c q _ y _ bs h refl e k
+
+padding-of : (n x c q y : ℕ) (t : Time) (m : Outcome (List Event)) → trackStep n x m ≡ Track t c q y → x ≡ y
+unfolding trackStep
+padding-of n x c q y t (ok es r) e = cc
+padding-of n x c q y t (refused k p) e = let w : _≡_ {A = ℕ} 0 1 = cc in absurd (omega arith)
+
+-- the sum that came with it
+pub track-padding : {t : Time} {c q y : ℕ} (s : List ℕ) (at : ℕ) → T s at ≡ Track t c q y → trackPadding at (drop at s) ≡ y
+track-padding {t} {c} {q} {y} s at e = padding-of (length s) _ c q y t _ e
 
 abbrev pub Tracks : List ℕ → ℕ → ℕ → TracksStep
 Tracks s left at = tracksStep (length s) (readTracks left at (drop at s))
@@ -242,9 +257,9 @@ tracks-none s (suc n) at z h = absurd (omega arith)
 pub tracks-bad : (s : List ℕ) (left at k p : ℕ) → 0 < left → T s at ≡ BadTrack k p → Tracks s left at ≡ BadTracks k p
 unfolding readTracks tracksStep andThen
 tracks-bad s zero at k p z e = absurd (omega arith)
-tracks-bad s (suc n) at k p z e = simp (track-bad (length s) k p (readTrack at (drop at s)) e)
+tracks-bad s (suc n) at k p z e = simp (track-bad (length s) _ k p (readTrack at (drop at s)) e)
 
-pub tracks-next : (s : List ℕ) (left at : ℕ) (t : Time) (c q : ℕ) → 0 < left → Bytes s → at ≤ length s → T s at ≡ Track t c q
+pub tracks-next : {y : ℕ} (s : List ℕ) (left at : ℕ) (t : Time) (c q : ℕ) → 0 < left → Bytes s → at ≤ length s → T s at ≡ Track t c q y
     → (Tracks s left at ≡ Tracks s (left - 1) q) × (q ≤ length s)
 unfolding readTracks andThen
 tracks-next s zero at t c q z bs h e = absurd (omega arith)

@@ -66,7 +66,7 @@ track-sound at l es r bs e =
 -- ---- the tracks
 
 -- a track, the chunks before it, and two parts after it
-track-split : (c t a r : List ℕ) → c ++ (t ++ a) ++ r ≡ c ++ (t ++ (a ++ r))
+pub track-split : (c t a r : List ℕ) → c ++ (t ++ a) ++ r ≡ c ++ (t ++ (a ++ r))
 track-split c t a r = simp append-assoc
 
 pub tracks-read : (at : ℕ) (ts : List (List Event)) (ss : List TrackSpelling) (r : List ℕ) → LawfulTracks ts → PermittedTracks ts ss → ShortTracks ts ss

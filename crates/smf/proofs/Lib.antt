@@ -21,3 +21,7 @@ pub mod AcceptedLaws
 pub mod WritingLaws
 pub mod WalkedLaws
 pub mod PlacedLaws
+pub mod PaddingLaws
+pub mod ListAnswerLaws
+pub mod UnpaddedLaws
+pub mod PaddingCases

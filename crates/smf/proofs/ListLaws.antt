@@ -18,7 +18,7 @@ use Rattle.smf.specs.Piece.{Piece}
 use Rattle.smf.specs.Reader.{readTrack, readTracks, readHeader, readBehind, readPiece, readFile}
 use Rattle.smf.specs.Answer.{success, roomNeeded, verdict}
 use Rattle.smf.specs.Step.{headerStep, lastTime, trackStep}
-use Rattle.smf.specs.Listing.{endTimes, eventCounts, hasRoom, listAnswer, listLeaves}
+use Rattle.smf.specs.Listing.{endTimes, eventCounts, hasRoom, listAnswer, listLeaves, paddingsIn}
 use Rattle.smf.specs.declared.Answer.{Answer}
 use Rattle.smf.specs.declared.Division.{Division}
 use Rattle.smf.specs.declared.HeaderStep.the-variants.{Fields}
@@ -27,7 +27,9 @@ use Rattle.event.proofs.BytesLaws.{bytes-drop}
 use Rattle.event.proofs.PlaceLaws.{place-back}
 use Rattle.smf.proofs.FileLaws.{tracks-sound}
 use Rattle.smf.proofs.RefusalLaws.{judged-refused}
-use Rattle.smf.proofs.ChunkLaws.{track-bad, track-found}
+use Rattle.smf.proofs.ChunkLaws.{track-bad, track-found, track-padding}
+use Rattle.smf.specs.Padding.{trackPadding, tracksPadding, paddings}
+use Rattle.smf.proofs.PaddingLaws.{padding-list}
 use Rattle.smf.proofs.VerdictLaws.{head-at}
 
 -- ---- a turn of the loop, with so many tracks left from the place at on
@@ -35,20 +37,21 @@ use Rattle.smf.proofs.VerdictLaws.{head-at}
 abbrev pub R : List ℕ → ℕ → ℕ → Outcome (List (List Event))
 R s left at = readTracks left at (drop at s)
 
-pub list-bad : (s : List ℕ) (left at k p : ℕ) → 0 < left → trackStep (length s) (readTrack at (drop at s)) ≡ BadTrack k p → Readable (R s left at) → ⊥
+pub list-bad : (s : List ℕ) (left at k p : ℕ) → 0 < left → trackStep (length s) (trackPadding at (drop at s)) (readTrack at (drop at s)) ≡ BadTrack k p → Readable (R s left at) → ⊥
 unfolding readTracks andThen Readable
 list-bad s zero at k p z e h = omega arith
-list-bad s (suc n) at k p z e h = rw (track-bad (length s) k p (readTrack at (drop at s)) e) at h
+list-bad s (suc n) at k p z e h = rw (track-bad (length s) _ k p (readTrack at (drop at s)) e) at h
 
 -- one track is listed, n others are left
-pub record Listed (s : List ℕ) (left n at : ℕ) (t : Time) (c q : ℕ) : Type 0 where
+pub record Listed (s : List ℕ) (left n at : ℕ) (t : Time) (c q y : ℕ) : Type 0 where
   pub inside : q ≤ length s
   pub readable : Readable (R s n q)
   pub times : endTimes (valueOr [] (R s left at)) ≡ t .0 ∷ endTimes (valueOr [] (R s n q))
   pub counts : eventCounts (valueOr [] (R s left at)) ≡ c ∷ eventCounts (valueOr [] (R s n q))
+  pub paddings : tracksPadding left at (drop at s) ≡ y ∷ tracksPadding n q (drop q s)
 
-list-one : (s : List ℕ) (n at : ℕ) (t : Time) (c q : ℕ) → Bytes s → at ≤ length s → trackStep (length s) (readTrack at (drop at s)) ≡ Track t c q
-    → Readable (R s (suc n) at) → Listed s (suc n) n at t c q
+list-one : {y : ℕ} (s : List ℕ) (n at : ℕ) (t : Time) (c q : ℕ) → Bytes s → at ≤ length s → trackStep (length s) (trackPadding at (drop at s)) (readTrack at (drop at s)) ≡ Track t c q y
+    → Readable (R s (suc n) at) → Listed s (suc n) n at t c q y
 unfolding readTracks andThen endTimes eventCounts
 list-one s n at t c q bs h e w =
     track-found s at t c q bs h e (λ es come lo hi pt pc.
@@ -62,10 +65,11 @@ list-one s n at t c q bs h e w =
       readable = good;
       times = ap endTimes all ∙ ap (λ x. x ∷ endTimes (valueOr [] (R s n q))) time;
       counts = ap eventCounts all ∙ ap (λ x. x ∷ eventCounts (valueOr [] (R s n q))) pc;
+      paddings = padding-list n at (drop at s) es (drop q s) come ∙ ap₂ (λ x k. x ∷ tracksPadding n k (drop q s)) (track-padding s at e) next;
     })
 
-pub list-next : (s : List ℕ) (left n at : ℕ) (t : Time) (c q : ℕ) → left ≡ suc n → Bytes s → at ≤ length s → trackStep (length s) (readTrack at (drop at s)) ≡ Track t c q
-    → Readable (R s left at) → Listed s left n at t c q
+pub list-next : {y : ℕ} (s : List ℕ) (left n at : ℕ) (t : Time) (c q : ℕ) → left ≡ suc n → Bytes s → at ≤ length s → trackStep (length s) (trackPadding at (drop at s)) (readTrack at (drop at s)) ≡ Track t c q y
+    → Readable (R s left at) → Listed s left n at t c q y
 list-next s left n at t c q e bs h g w = rw e (list-one s n at t c q bs h g (rw e at w))
 
 pub none-left : (s : List ℕ) (left at : ℕ) → left ≤ 0 → valueOr [] (R s left at) ≡ []
@@ -73,18 +77,27 @@ unfolding readTracks valueOr
 none-left s zero at h = refl
 none-left s (suc n) at h = absurd (omega arith)
 
+-- no track, no sum
+none-told : (at : ℕ) (l : List ℕ) → tracksPadding 0 at l ≡ []
+unfolding tracksPadding
+none-told at l = refl
+
+pub no-paddings : (s : List ℕ) (left at : ℕ) (now : List ℕ) (i : ℕ) → left ≤ 0 → sets now i (tracksPadding left at (drop at s)) ≡ now
+no-paddings s zero at now i h = rw (none-told at (drop at s)) refl
+no-paddings s (suc n) at now i h = absurd (omega arith)
+
 pub list-none : (f : List (List Event) → List ℕ) (s : List ℕ) (left at : ℕ) (now : List ℕ) (i : ℕ) → f [] ≡ [] → left ≤ 0 → sets now i (f (valueOr [] (R s left at))) ≡ now
 list-none f s left at now i e h = rw (none-left s left at h, e) refl
 
 -- ---- the answers
 
-pub list-refused : (n m : ℕ) (x : Outcome Piece) (v : Answer) → v ≡ verdict x → (v .number ≡ 0 → ⊥) → v ≡ listAnswer n m x
+pub list-refused : (n m o : ℕ) (x : Outcome Piece) (v : Answer) → v ≡ verdict x → (v .number ≡ 0 → ⊥) → v ≡ listAnswer n m o x
 unfolding listAnswer
-list-refused n m x v e h = judged-refused x v e h (λ k p q w. rw q w)
+list-refused n m o x v e h = judged-refused x v e h (λ k p q w. rw q w)
 
-pub refused-leaves : (f : List (List Event) → List ℕ) (n m : ℕ) (x : Outcome Piece) (v : Answer) (old : List ℕ) → v ≡ verdict x → (v .number ≡ 0 → ⊥) → old ≡ listLeaves f n m x old
+pub refused-leaves : (f : List (List Event) → List ℕ) (n m o : ℕ) (x : Outcome Piece) (v : Answer) (old : List ℕ) → v ≡ verdict x → (v .number ≡ 0 → ⊥) → old ≡ listLeaves f n m o x old
 unfolding listLeaves
-refused-leaves f n m x v old e h = judged-refused x v e h (λ k p q w. rw q refl)
+refused-leaves f n m o x v old e h = judged-refused x v e h (λ k p q w. rw q refl)
 
 -- ---- where the file is accepted
 
@@ -114,36 +127,63 @@ accepted-piece s a b d n p r bs e q =
     let inPiece : p .tracks ≡ ts = ap (λ z. z .tracks) (sym same) in
     record { piece = p; rest = r; left = m; read = q; tracks = tracks ∙ ap (λ z. ok z m) (sym inPiece); count = ap length inPiece ∙ laid .count })))))
 
+-- the sums of the padding from where the header ends
+paddings-there : (s : List ℕ) (a b : ℕ) (d : Division) (n : ℕ) → Bytes s → headerStep (length s) (readHeader s) ≡ Fields a b d n → paddings s ≡ tracksPadding b n (drop n s)
+unfolding paddings valueOr andThen
+paddings-there s a b d n bs e =
+    let there = head-at s a b d n bs e in
+    rw (there .read) (ap₂ (λ x y. tracksPadding x y (drop n s)) (there .sameCount) (place-back s n (there .inside)))
+
+-- one for each track that is read
+paddings-count : (n at : ℕ) (l : List ℕ) (ts : List (List Event)) (r : List ℕ) → readTracks n at l ≡ ok ts r → length (tracksPadding n at l) ≡ n
+unfolding readTracks
+paddings-count zero at l ts r e = ap length (none-told at l)
+paddings-count (suc n) at l ts r e =
+    andThen-ok (readTrack at l) _ ts r e (λ t m qt e1.
+    andThen-ok (readTracks n _ m) _ ts r e1 (λ us q qu e2.
+    ap length (padding-list n at l t m qt) ∙ ap suc (paddings-count n _ m us q qu)))
+
 module _ (s : List ℕ) (b n : ℕ) (there : Accepted s b n) where
   pub accepted-readable : Readable (R s b n)
   unfolding Readable
   accepted-readable = rw (there .tracks) tt
 
   -- a list is too short
-  module _ (x y : ℕ) (short : hasRoom x y b ≡ false) where
-    pub short-answer : roomNeeded b ≡ listAnswer x y (readFile s)
+  module _ (x y z : ℕ) (short : hasRoom x y z b ≡ false) where
+    pub short-answer : roomNeeded b ≡ listAnswer x y z (readFile s)
     unfolding listAnswer pick
     short-answer = rw (there .read, there .count, short) refl
 
-    pub short-leaves : (f : List (List Event) → List ℕ) (old : List ℕ) → old ≡ listLeaves f x y (readFile s) old
+    pub short-leaves : (f : List (List Event) → List ℕ) (old : List ℕ) → old ≡ listLeaves f x y z (readFile s) old
     unfolding listLeaves pick
     short-leaves f old = rw (there .read, there .count, short) refl
 
-  -- both are long enough
-  module _ (x y : ℕ) (fits : hasRoom x y b ≡ true) where
-    pub fine-answer : success b ≡ listAnswer x y (readFile s)
+  -- all are long enough
+  module _ (x y z : ℕ) (fits : hasRoom x y z b ≡ true) where
+    pub fine-answer : success b ≡ listAnswer x y z (readFile s)
     unfolding listAnswer pick
     fine-answer = rw (there .read, there .count, fits) refl
 
+    -- a list that is stored from the first place on, and is the one of its tracks
+    stored : (f : List (List Event) → List ℕ) (old xs : List ℕ) → f (there .piece .tracks) ≡ xs → length xs ≡ b → b ≤ length old
+        → sets old 0 xs ≡ listLeaves f x y z (readFile s) old
+    unfolding listLeaves pick
+    stored f old xs same size room =
+        let past : 0 + length xs ≡ b = omega arith in
+        sets-eq xs old 0 (omega arith) ∙ rw (there .read, there .count, fits, past, same) refl
+
     pub fine-leaves : (f : List (List Event) → List ℕ) (old : List ℕ) → ((ts : List (List Event)) → length (f ts) ≡ length ts) → b ≤ length old
-        → sets old 0 (f (valueOr [] (R s b n))) ≡ listLeaves f x y (readFile s) old
-    unfolding listLeaves pick valueOr
+        → sets old 0 (f (valueOr [] (R s b n))) ≡ listLeaves f x y z (readFile s) old
+    unfolding valueOr
     fine-leaves f old same room =
-        let size : length (f (there .piece .tracks)) ≡ b = same (there .piece .tracks) ∙ there .count in
-        let past : 0 + length (f (there .piece .tracks)) ≡ b = omega arith in
-        ap (λ z. sets old 0 (f (valueOr [] z))) (there .tracks)
-        ∙ sets-eq (f (there .piece .tracks)) old 0 (omega arith)
-        ∙ rw (there .read, there .count, fits, past) refl
+        let got : f (valueOr [] (R s b n)) ≡ f (there .piece .tracks) = ap (λ v. f (valueOr [] v)) (there .tracks) in
+        stored f old (f (valueOr [] (R s b n))) (sym got) (ap length got ∙ same (there .piece .tracks) ∙ there .count) room
+
+    -- the third list
+    pub fine-paddings : (a : ℕ) (d : Division) (old : List ℕ) → Bytes s → headerStep (length s) (readHeader s) ≡ Fields a b d n → b ≤ length old
+        → sets old 0 (tracksPadding b n (drop n s)) ≡ listLeaves (paddingsIn s) x y z (readFile s) old
+    fine-paddings a d old bs e room =
+        stored (paddingsIn s) old (tracksPadding b n (drop n s)) (paddings-there s a b d n bs e) (paddings-count b n (drop n s) _ _ (there .tracks)) room
 
 pub length-times : (ts : List (List Event)) → length (endTimes ts) ≡ length ts
 unfolding endTimes
@@ -155,17 +195,21 @@ unfolding eventCounts
 length-counts [] = refl
 length-counts (t ∷ ts) = ap suc (length-counts ts)
 
-pub room-yes : (n m k : ℕ) → k ≤ n → k ≤ m → hasRoom n m k ≡ true
+pub room-yes : (n m o k : ℕ) → k ≤ n → k ≤ m → k ≤ o → hasRoom n m o k ≡ true
 unfolding hasRoom
-room-yes n m k h g = rw (le-leb k n h, le-leb k m g)
+room-yes n m o k h g i = rw (le-leb k n h, le-leb k m g, le-leb k o i)
 
-pub room-first : (n m k : ℕ) → n < k → hasRoom n m k ≡ false
+pub room-first : (n m o k : ℕ) → n < k → hasRoom n m o k ≡ false
 unfolding hasRoom
-room-first n m k h = rw (lt-leb k n h)
+room-first n m o k h = rw (lt-leb k n h)
 
-pub room-second : (n m k : ℕ) → k ≤ n → m < k → hasRoom n m k ≡ false
+pub room-second : (n m o k : ℕ) → k ≤ n → m < k → hasRoom n m o k ≡ false
 unfolding hasRoom
-room-second n m k h g = rw (le-leb k n h, lt-leb k m g)
+room-second n m o k h g = rw (le-leb k n h, lt-leb k m g)
+
+pub room-third : (n m o k : ℕ) → k ≤ n → k ≤ m → o < k → hasRoom n m o k ≡ false
+unfolding hasRoom
+room-third n m o k h g i = rw (le-leb k n h, le-leb k m g, lt-leb k o i)
 
 -- a store, and then the others
 pub sets-step : (l : List ℕ) (i x : ℕ) (xs : List ℕ) → sets (set l i x) (i + 1) xs ≡ sets l i (x ∷ xs)

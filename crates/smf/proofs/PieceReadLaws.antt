@@ -11,6 +11,7 @@ use Rattle.event.specs.Frame.{frame, after, noStatus}
 use Rattle.event.specs.Layout.{layEvent}
 use Rattle.event.specs.Outcome.{ok}
 use Rattle.event.specs.Reader.{readEvent}
+use Rattle.event.specs.Padding.{eventPadding}
 use Rattle.event.specs.Step.{kindAt, kindFrom, eventStep}
 use Rattle.event.proofs.OutcomeLaws.{not-ok, ok-same, andThen-ok, placed-ok}
 use Rattle.event.proofs.BytesLaws.{bytes-drop}
@@ -35,8 +36,8 @@ use Rattle.smf.proofs.VerdictLaws.{head-at}
 
 -- the first event of the rest of a body, and the rest after it
 events-turn : (n : ℕ) (body : List ℕ) (at prev force : ℕ) (e : Event) (r : List ℕ) → Bytes body → at ≤ length body → readEvent prev force (drop at body) ≡ ok e r
-    → eventsRead (suc n) body (eventStep (length body) (readEvent prev force (drop at body)))
-    ≡ e ∷ untilEnd (isEnd (e .kind)) (eventsRead n body (eventStep (length body) (readEvent (e .time) (after (frame (e .kind))) r)))
+    → eventsRead (suc n) body (eventStep (length body) (eventPadding (drop at body)) (readEvent prev force (drop at body)))
+    ≡ e ∷ untilEnd (isEnd (e .kind)) (eventsRead n body (eventStep (length body) (eventPadding r) (readEvent (e .time) (after (frame (e .kind))) r)))
 unfolding eventsRead eventStep
 events-turn n body at prev force e r bs h come =
     let laid = event-sound prev force (drop at body) e r (bytes-drop body at bs) come in
@@ -54,7 +55,7 @@ unfolding untilEnd
 until-false b l e = ap (λ z. untilEnd z l) e
 
 events-are : (m n base : ℕ) (body : List ℕ) (at prev force : ℕ) (es : List Event) (q : List ℕ) → Bytes body → at ≤ length body → length body - at < n
-    → readEvents m base prev force (drop at body) ≡ ok es q → eventsRead n body (eventStep (length body) (readEvent prev force (drop at body))) ≡ es
+    → readEvents m base prev force (drop at body) ≡ ok es q → eventsRead n body (eventStep (length body) (eventPadding (drop at body)) (readEvent prev force (drop at body))) ≡ es
 unfolding readEvents
 events-are zero n base body at prev force es q bs h few e = not-ok e
 events-are (suc m) zero base body at prev force es q bs h few e = absurd (omega arith)

@@ -13,6 +13,7 @@ use Rattle.event.specs.Frame.{frame, after, noStatus}
 use Rattle.event.specs.Layout.{layEvent}
 use Rattle.event.specs.Outcome.{ok, Readable, valueOr}
 use Rattle.event.specs.Reader.{readEvent}
+use Rattle.event.specs.Padding.{eventPadding}
 use Rattle.event.specs.Step.{eventStep, endOf}
 use Rattle.event.specs.declared.Time.{Time}
 use Rattle.event.specs.declared.EventKind.{EventKind}
@@ -101,10 +102,10 @@ module _ (f : List ℕ) (bs : Bytes f) (a b : ℕ) (order : a ≤ b) (end : b �
     pub chain : Chain f (a + at) t force es
     pub events : eventsOf es ≡ valueOr [] (A Part at t force)
 
-  stands : (n at t force : ℕ) (x : EventStep) → length Part - at < n → at ≤ length Part → Readable (A Part at t force) → x ≡ eventStep (length Part) (readEvent t force (drop at Part)) → Stands at t force (Met Part a at t force)
+  stands : (n at t force : ℕ) (x : EventStep) → length Part - at < n → at ≤ length Part → Readable (A Part at t force) → x ≡ eventStep (length Part) (eventPadding (drop at Part)) (readEvent t force (drop at Part)) → Stands at t force (Met Part a at t force)
   unfolding Chain Tail
   stands zero at t force x fuel h good e = absurd (omega arith)
-  stands (suc n) at t force (Read u k q st) fuel h good e =
+  stands (suc n) at t force (Read u k q st padding) fuel h good e =
       let c = event-came Part at t force part-bytes h e refl in
       let link = link-on at t force u k q st h c in
       by-test (endOf k)

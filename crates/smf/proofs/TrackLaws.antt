@@ -39,7 +39,7 @@ events-read (suc n) at prev force (e ∷ es) (s ∷ ss) l p h =
     ∙ go-read (isEnd (e .kind)) _ e es ss (e .time) _ _ (l .1) (λ c. events-read n _ (e .time) (after (frame (e .kind))) es ss c (p .1) (omega arith))
 
 -- a track has no more events than bytes
-events-size : (prev force : ℕ) (es : List Event) (ss : List Spelling) → PermittedEvents prev force es ss → length es ≤ length (layEvents prev es ss)
+pub events-size : (prev force : ℕ) (es : List Event) (ss : List Spelling) → PermittedEvents prev force es ss → length es ≤ length (layEvents prev es ss)
 unfolding PermittedEvents layEvents
 events-size prev force [] ss p = omega arith
 events-size prev force (e ∷ es) [] p = absurd p

@@ -10,6 +10,7 @@ use Rattle.event.specs.Event.{Event}
 use Rattle.event.specs.Frame.{noStatus}
 use Rattle.event.specs.Outcome.{Outcome, ok, refused, andThen, Readable, valueOr}
 use Rattle.event.specs.Reader.{readEvent}
+use Rattle.event.specs.Padding.{eventPadding}
 use Rattle.event.specs.Step.{endOf, eventStep}
 use Rattle.event.specs.declared.Time.{Time}
 use Rattle.event.specs.declared.EventKind.{EventKind}
@@ -31,7 +32,7 @@ use Rattle.smf.proofs.ListLaws.{R}
 abbrev pub A : List ℕ → ℕ → ℕ → ℕ → Outcome (List Event)
 A s at t f = readAll at t f (drop at s)
 
-pub turn-stop : {x : EventStep} {k : ℕ} (s : List ℕ) (at t f : ℕ) → Bytes s → x ≡ eventStep (length s) (readEvent t f (drop at s)) → x ≡ Stop k → Readable (A s at t f) → ⊥
+pub turn-stop : {x : EventStep} {k : ℕ} (s : List ℕ) (at t f : ℕ) → Bytes s → x ≡ eventStep (length s) (eventPadding (drop at s)) (readEvent t f (drop at s)) → x ≡ Stop k → Readable (A s at t f) → ⊥
 unfolding Readable
 turn-stop s at t f bs e given h = rw (came-stop s at t f at bs e given) at h
 

@@ -12,7 +12,10 @@ pub mod PieceRead
 pub mod Walk
 pub mod PlacedFile
 pub mod Demand3
+pub mod Padding
 pub mod Listing
+pub mod Unpadded
+pub mod PaddingCases
 pub mod Slips
 pub mod ChunkCases
 pub mod DivisionCases

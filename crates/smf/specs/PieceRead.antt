@@ -9,6 +9,7 @@ use lib.ListN.{length, take, drop}
 use Rattle.event.specs.Event.{Event}
 use Rattle.event.specs.Frame.{noStatus}
 use Rattle.event.specs.Reader.{readEvent}
+use Rattle.event.specs.Padding.{eventPadding}
 use Rattle.event.specs.Step.{eventStep, endOf, kindFrom}
 use Rattle.event.specs.declared.EventStep.{EventStep}
 use Rattle.event.specs.declared.EventStep.the-variants.{Read, Stop}
@@ -28,16 +29,16 @@ untilEnd false es = es
 
 -- the events of a track's body from the answer of the event side on; n is more than there are
 unfoldable pub eventsRead : ℕ → List ℕ → EventStep → List Event
-eventsRead zero body (Read t k next status) = []
+eventsRead zero body (Read t k next status extra) = []
 eventsRead zero body (Stop number) = []
-eventsRead (suc n) body (Read t k next status) =
+eventsRead (suc n) body (Read t k next status extra) =
     record { time = t .0; kind = kindFrom body k }
-    ∷ untilEnd (endOf k) (eventsRead n body (eventStep (length body) (readEvent (t .0) status (drop next body))))
+    ∷ untilEnd (endOf k) (eventsRead n body (eventStep (length body) (eventPadding (drop next body)) (readEvent (t .0) status (drop next body))))
 eventsRead (suc n) body (Stop number) = []
 
 -- "from the first byte after the track's length to End_track", with no status in force at first
 unfoldable pub trackRead : List ℕ → List Event
-trackRead body = eventsRead (suc (length body)) body (eventStep (length body) (readEvent 0 noStatus body))
+trackRead body = eventsRead (suc (length body)) body (eventStep (length body) (eventPadding body) (readEvent 0 noStatus body))
 
 -- so many tracks of the file f from the answer about the next chunk on
 unfoldable pub tracksRead : ℕ → List ℕ → ChunkStep → List (List Event)

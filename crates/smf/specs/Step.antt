@@ -44,15 +44,16 @@ unfoldable pub lastTime : ℕ → List Event → ℕ
 lastTime prev [] = prev
 lastTime prev (e ∷ es) = lastTime (e .time) es
 
--- a walk that comes to the end of a track, at the Time prev after n events: "End_track Times and event counts (End_track included)"
-unfoldable pub walkStep : ℕ → ℕ → Outcome (List Event) → WalkStep
-walkStep prev n (ok es r) = Whole (record { 0 = lastTime prev es }) (n + length es)
-walkStep prev n (refused k p) = Fault k p
+-- a walk that comes to the end of a track, at the Time prev after n events: "End_track Times and event counts (End_track included)", and
+-- the sum x of their padding
+unfoldable pub walkStep : ℕ → ℕ → ℕ → Outcome (List Event) → WalkStep
+walkStep prev n x (ok es r) = Whole (record { 0 = lastTime prev es }) (n + length es) x
+walkStep prev n x (refused k p) = Fault k p
 
--- a track: the Time of its End_track, the number of its events, the place after it
-unfoldable pub trackStep : ℕ → Outcome (List Event) → TrackStep
-trackStep n (ok es r) = Track (record { 0 = lastTime 0 es }) (length es) (n - length r)
-trackStep n (refused k p) = BadTrack k p
+-- a track: the Time of its End_track, the number of its events, the place after it, the sum x of their padding
+unfoldable pub trackStep : ℕ → ℕ → Outcome (List Event) → TrackStep
+trackStep n x (ok es r) = Track (record { 0 = lastTime 0 es }) (length es) (n - length r) x
+trackStep n x (refused k p) = BadTrack k p
 
 -- all the tracks: the place after the last
 unfoldable pub tracksStep : ℕ → Outcome (List (List Event)) → TracksStep

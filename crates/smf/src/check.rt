@@ -27,7 +27,12 @@ fn read_tracks(file: &[u8], count: u32, first: usize) -> TracksStep
             TrackStep::BadTrack { number, place } => {
                 return TracksStep::BadTracks { number, place };
             }
-            TrackStep::Track { time, events, next } => {
+            TrackStep::Track {
+                time,
+                events,
+                next,
+                padding,
+            } => {
                 at = next;
                 left = left - 1;
             }

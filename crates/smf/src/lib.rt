@@ -77,11 +77,18 @@ pub enum ChunkStep {
     BadChunk { number: u8, place: usize },
 }
 
-// What walking a track's events answers: the Time of its End_track and the number of its events,
-// End_track included.
+// What walking a track's events answers: the Time of its End_track, the number of its events,
+// End_track included, and the sum of their padding.
 pub enum WalkStep {
-    Whole { time: event::Time, events: u32 },
-    Fault { number: u8, place: usize },
+    Whole {
+        time: event::Time,
+        events: u32,
+        padding: u32,
+    },
+    Fault {
+        number: u8,
+        place: usize,
+    },
 }
 
 // What reading a track answers: the same, and the place after its chunk.
@@ -90,6 +97,7 @@ pub enum TrackStep {
         time: event::Time,
         events: u32,
         next: usize,
+        padding: u32,
     },
     BadTrack {
         number: u8,

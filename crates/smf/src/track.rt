@@ -3,8 +3,10 @@ ghost use mathlib.Core.Path.{_≡_};
 ghost use Prim.Native.Nat.{_+_, _≤_, _<_, _^_};
 ghost use lib.ListN.{length, drop};
 ghost use Rattle.smf.specs.Reader.{readAll, readChunk, readTrack};
+ghost use Rattle.smf.specs.Padding.{allPadding, trackPadding};
 ghost use Rattle.smf.specs.Step.{chunkStep, walkStep, trackStep};
 ghost use Rattle.smf.specs.declared.ChunkStep.the-variants.{BadChunk};
+ghost use Rattle.smf.specs.declared.WalkStep.the-variants.{Whole};
 use super::ChunkStep;
 use super::TRACK_TAG;
 use super::TrackStep;
@@ -44,41 +46,51 @@ pub fn next_track(file: &[u8], from: usize) -> ChunkStep
     }
 }
 
+// All of a track's events came, up to End_track.
+fn whole(time: event::Time, events: u32, padding: u32) -> WalkStep
+    ensures { λ r. ⌜ r ≡ Whole time events padding ⌝ }
+{
+    WalkStep::Whole {
+        time,
+        events,
+        padding,
+    }
+}
+
 // The events of a track's body, whose first byte is the file's byte at base.
 fn walk_track(body: &[u8], base: usize) -> WalkStep
     requires { ⌜ base + length (now body) < 2 ^ 64 ⌝ ∗ ⌜ length (now body) ≤ 4294967295 ⌝ }
-    ensures { λ r. ⌜ r ≡ walkStep 0 0 (readAll base 0 0 (now (body .entry))) ⌝ }
+    ensures { λ r. ⌜ r ≡ walkStep 0 0 (allPadding 0 0 (now (body .entry))) (readAll base 0 0 (now (body .entry))) ⌝ }
 {
     let mut at: usize = 0;
-    let mut time = event::Time(0);
+    let mut prev = event::Time(0);
     let mut status: u8 = 0;
     let mut events: u32 = 0;
+    let mut padding: u32 = 0;
     loop {
-        match event::read::read_event(body, at, time, status) {
+        match event::read::read_event(body, at, prev, status) {
             event::EventStep::Stop { number } => {
-                return WalkStep::Fault {
-                    number,
-                    place: base + at,
-                };
+                let place = base + at;
+                return WalkStep::Fault { number, place };
             }
             event::EventStep::Read {
-                time: t,
+                time,
                 kind,
                 next,
                 status: s,
+                padding: above,
             } => {
                 events += 1;
+                padding += above;
                 if event::read::is_end(kind) {
                     if next < body.len() {
-                        return WalkStep::Fault {
-                            number: 12,
-                            place: base + next,
-                        };
+                        let place = base + next;
+                        return WalkStep::Fault { number: 12, place };
                     }
-                    return WalkStep::Whole { time: t, events };
+                    return whole(time, events, padding);
                 }
                 at = next;
-                time = t;
+                prev = time;
                 status = s;
             }
         }
@@ -87,16 +99,21 @@ fn walk_track(body: &[u8], base: usize) -> WalkStep
 
 // A track at a place of the file.
 pub fn read_track(file: &[u8], at: usize) -> TrackStep
-    ensures { λ r. ⌜ r ≡ trackStep (length (now (file .entry))) (readTrack at (drop at (now (file .entry)))) ⌝ }
+    ensures { λ r. ⌜ r ≡ trackStep (length (now (file .entry))) (trackPadding at (drop at (now (file .entry)))) (readTrack at (drop at (now (file .entry)))) ⌝ }
 {
     match next_track(file, at) {
         ChunkStep::BadChunk { number, place } => TrackStep::BadTrack { number, place },
         ChunkStep::Body { start, end } => match walk_track(&file[start..end], start) {
             WalkStep::Fault { number, place } => TrackStep::BadTrack { number, place },
-            WalkStep::Whole { time, events } => TrackStep::Track {
+            WalkStep::Whole {
+                time,
+                events,
+                padding,
+            } => TrackStep::Track {
                 time,
                 events,
                 next: end,
+                padding,
             },
         },
     }

@@ -76,6 +76,7 @@ fn put_events(out: &mut [u8], from: usize, body: &[u8], short: bool) -> usize
                 kind,
                 next: n,
                 status: s,
+                padding,
             } => {
                 let delta = step(t, time);
                 next = put_event(out, next, delta, kind, status, body, short);

@@ -22,7 +22,7 @@ use Rattle.fold.specs.declared.Row.{Row}
 -- the row of a track whose next event is the one answered, at the place at, after the Time time, with the status in force: that event's
 -- place and Time and the status before it, or status 1 where it is End_track
 unfoldable pub rowOf : ℕ → ℕ → ℕ → EventStep → Row
-rowOf at time status (Read t k next st) = record { place = at; time = t .0; status = pick (endOf k) 1 status }
+rowOf at time status (Read t k next st padding) = record { place = at; time = t .0; status = pick (endOf k) 1 status }
 rowOf at time status (Stop number) = record { place = at; time = time; status = 1 }
 
 -- a file of format 0 with the one track, its division by its 16 bits

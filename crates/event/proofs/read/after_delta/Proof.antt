@@ -1,14 +1,17 @@
-use Rattle.event.specs.Step.{frameStep}
+use Rattle.event.specs.Step.{frameStep, padded}
+use native.Mathlib.Omega.{arith}
+use Rattle.event.proofs.PaddingLaws.{padded-none, low-there, exclusive-there, meta-there}
 use lib.ListN.{length}
 use mathlib.Core.Logic.{inl, inr}
 use Rattle.event.proofs.StatusLaws.{frame-none, frame-data, frame-data-none, frame-channel, frame-exclusive, frame-meta, frame-other, channel-low, channel-high}
-use mathlib.Core.Path.{sym, _∙_, ap}
+use mathlib.Core.Path.{sym, _∙_, ap, ap₂}
 use borrow.Author.Needs.{needs}
 use Rattle.event.proofs.read.after_delta.Statement.{statement}
 use Rattle.event.proofs.read.after_delta.Tie as tie
 
 returns : tie.Need-returns
-returns c = let a = c .before .before .args in frame-none (a .body .now) (a .status) (a .at) (c .if1 .taken)
+unfolding padded
+returns c = let a = c .before .before .args in ap (padded _) (frame-none (a .body .now) (a .status) (a .at) (c .if1 .taken))
 
 shared-slice-read-b : tie.Need-shared-slice-read-b
 shared-slice-read-b c = search needs
@@ -41,28 +44,31 @@ channel-event-requires-2 : tie.Need-channel-event-requires-2
 channel-event-requires-2 c κs = search needs
 
 returns-2 : tie.Need-returns-2
-returns-2 c = let a = c .before .before .before .before .before .args in c .exclusive-event .ensures ∙ ap (frameStep (length (a .body .now))) (sym (frame-exclusive (a .body .now) (a .status) (a .at) (c .before .before .before .if1 .left) (inl (c .before .match .keys1))))
+returns-2 c = let a = c .before .before .before .before .before .args in let there = c .before .before .before .if1 .left in c .exclusive-event .ensures ∙ ap₂ (λ x m. padded x (frameStep (length (a .body .now)) m)) (sym (exclusive-there (a .body .now) (a .at) there (inl (c .before .match .keys1)))) (sym (frame-exclusive (a .body .now) (a .status) (a .at) there (inl (c .before .match .keys1))))
 
 returns-3 : tie.Need-returns-3
-returns-3 c = let a = c .before .before .before .before .before .args in c .exclusive-event2 .ensures ∙ ap (frameStep (length (a .body .now))) (sym (frame-exclusive (a .body .now) (a .status) (a .at) (c .before .before .before .if1 .left) (inr (c .before .match .keys2))))
+returns-3 c = let a = c .before .before .before .before .before .args in let there = c .before .before .before .if1 .left in c .exclusive-event2 .ensures ∙ ap₂ (λ x m. padded x (frameStep (length (a .body .now)) m)) (sym (exclusive-there (a .body .now) (a .at) there (inr (c .before .match .keys2)))) (sym (frame-exclusive (a .body .now) (a .status) (a .at) there (inr (c .before .match .keys2))))
 
 returns-4 : tie.Need-returns-4
-returns-4 c = let a = c .before .before .before .before .before .args in c .meta-event .ensures ∙ ap (frameStep (length (a .body .now))) (sym (frame-meta (a .body .now) (a .status) (a .at) (c .before .before .before .if1 .left) (c .before .match .keys3)))
+returns-4 c = let a = c .before .before .before .before .before .args in let there = c .before .before .before .if1 .left in c .meta-event .ensures ∙ ap₂ (λ x m. padded x (frameStep (length (a .body .now)) m)) (sym (meta-there (a .body .now) (a .at) there (c .before .match .keys3))) (sym (frame-meta (a .body .now) (a .status) (a .at) there (c .before .match .keys3)))
 
 returns-5 : tie.Need-returns-5
-returns-5 c = let a = c .before .before .before .before .before .before .args in frame-data-none (a .body .now) (a .status) (a .at) (c .before .before .before .before .if1 .left) (c .before .if2 .taken) (channel-low (a .status) (c .if3 .taken))
+unfolding padded
+returns-5 c = let a = c .before .before .before .before .before .before .args in ap (padded _) (frame-data-none (a .body .now) (a .status) (a .at) (c .before .before .before .before .if1 .left) (c .before .if2 .taken) (channel-low (a .status) (c .if3 .taken)))
 
 returns-6 : tie.Need-returns-6
-returns-6 c = let a = c .before .before .before .before .before .before .before .before .args in c .channel-event .ensures ∙ ap (frameStep (length (a .body .now))) (sym (frame-data (a .body .now) (a .status) (a .at) (c .before .before .before .before .before .before .if1 .left) (c .before .before .before .if2 .taken) (c .before .before .if3 .left) (c .before .if4 .taken)))
+returns-6 c = let a = c .before .before .before .before .before .before .before .before .args in c .channel-event .ensures ∙ sym (padded-none (length (a .body .now)) _) ∙ ap₂ (λ x m. padded x (frameStep (length (a .body .now)) m)) (sym (low-there (a .body .now) (a .at) (c .before .before .before .before .before .before .if1 .left) (omega (arith, c .before .before .before .if2 .taken)))) (sym (frame-data (a .body .now) (a .status) (a .at) (c .before .before .before .before .before .before .if1 .left) (c .before .before .before .if2 .taken) (c .before .before .if3 .left) (c .before .if4 .taken)))
 
 returns-7 : tie.Need-returns-7
-returns-7 c = let a = c .before .before .before .before .before .before .before .args in frame-data-none (a .body .now) (a .status) (a .at) (c .before .before .before .before .before .if1 .left) (c .before .before .if2 .taken) (channel-high (a .status) (c .if4 .left))
+unfolding padded
+returns-7 c = let a = c .before .before .before .before .before .before .before .args in ap (padded _) (frame-data-none (a .body .now) (a .status) (a .at) (c .before .before .before .before .before .if1 .left) (c .before .before .if2 .taken) (channel-high (a .status) (c .if4 .left)))
 
 returns-8 : tie.Need-returns-8
-returns-8 c = let a = c .before .before .before .before .before .before .before .args in c .channel-event2 .ensures ∙ ap (frameStep (length (a .body .now))) (sym (frame-channel (a .body .now) (a .status) (a .at) (c .before .before .before .before .before .if1 .left) (c .before .before .if2 .left) (c .before .if5 .taken)))
+returns-8 c = let a = c .before .before .before .before .before .before .before .args in c .channel-event2 .ensures ∙ sym (padded-none (length (a .body .now)) _) ∙ ap₂ (λ x m. padded x (frameStep (length (a .body .now)) m)) (sym (low-there (a .body .now) (a .at) (c .before .before .before .before .before .if1 .left) (c .before .if5 .taken))) (sym (frame-channel (a .body .now) (a .status) (a .at) (c .before .before .before .before .before .if1 .left) (c .before .before .if2 .left) (c .before .if5 .taken)))
 
 returns-9 : tie.Need-returns-9
-returns-9 c = let a = c .before .before .before .before .before .before .args in frame-other (a .body .now) (a .status) (a .at) (c .before .before .before .before .if1 .left) (c .if5 .left) (c .before .before .match .rest .0 .0 .1) (c .before .before .match .rest .0 .1) (c .before .before .match .rest .1)
+unfolding padded
+returns-9 c = let a = c .before .before .before .before .before .before .args in ap (padded _) (frame-other (a .body .now) (a .status) (a .at) (c .before .before .before .before .if1 .left) (c .if5 .left) (c .before .before .match .rest .0 .0 .1) (c .before .before .match .rest .0 .1) (c .before .before .match .rest .1))
 
 pub after-delta-spec : {M : Type 1} → statement M
 after-delta-spec =

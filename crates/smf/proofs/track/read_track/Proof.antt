@@ -65,7 +65,7 @@ returns-2 c = let a = c .before .before .before .before .before .before .before 
     let came = sym (c .before .before .before .before .before .before .before .before .next-track .ensures) ∙ g .1 in
     let there = chunk-body (a .file .now) (a .at) (g .0 .0) (g .0 .1 .0) bytes came in
     let k = c .before .number2 .given in
-    track-fault (a .file .now) (a .at) (g .0 .0) (g .0 .1 .0) bytes came (k .0 .0) (k .0 .1 .0) (sym (k .1) ∙ c .before .before .before .walk-track .ensures)
+    track-fault (a .file .now) (a .at) (g .0 .0) (g .0 .1 .0) bytes came _ (k .0 .0) (k .0 .1 .0) (sym (k .1) ∙ c .before .before .before .walk-track .ensures)
 
 returns-3 : tie.Need-returns-3
 returns-3 c = let a = c .before .before .before .before .before .before .before .before .before .before .args in
@@ -74,7 +74,7 @@ returns-3 c = let a = c .before .before .before .before .before .before .before 
     let came = sym (c .before .before .before .before .before .before .before .before .next-track .ensures) ∙ g .1 in
     let there = chunk-body (a .file .now) (a .at) (g .0 .0) (g .0 .1 .0) bytes came in
     let k = c .before .time .given in
-    track-whole (a .file .now) (a .at) (g .0 .0) (g .0 .1 .0) bytes came (k .0 .0) (k .0 .1 .0) (sym (k .1) ∙ c .before .before .before .walk-track .ensures)
+    track-whole (a .file .now) (a .at) (g .0 .0) (g .0 .1 .0) bytes came (k .0 .1 .1 .0) (k .0 .0) (k .0 .1 .0) (sym (k .1) ∙ c .before .before .before .walk-track .ensures)
 
 pub read-track-spec : {M : Type 1} → statement M
 read-track-spec =
