@@ -81,14 +81,14 @@ module _ (s : List ℕ) (prev f at : ℕ) where
         → Stop k ≡ eventStep (length s) (eventPadding (drop at s)) (readEvent prev f (drop at s))
     event-refused u k e h = let (b, w) = later-at prev v u e in rw (event-timed b) (stopped (length s) (prev + v) _ _ (readFrame f (drop p s)) k h)
 
-    pub event-found : (u : Time) (e : EventKind) (n st x y : ℕ) → vlqPadding (drop at s) ≡ x → Bytes (drop p s) → laterOf prev v ≡ At u
+    pub event-found : (u : Time) (e : EventKind) (n st x y z : ℕ) → z ≡ x + y → vlqPadding (drop at s) ≡ x → Bytes (drop p s) → laterOf prev v ≡ At u
         → padded (framePadding (drop p s)) (frameStep (length s) (readFrame f (drop p s))) ≡ Found e n st y
-        → Read u e n st (x + y) ≡ eventStep (length s) (eventPadding (drop at s)) (readEvent prev f (drop at s))
+        → Read u e n st z ≡ eventStep (length s) (eventPadding (drop at s)) (readEvent prev f (drop at s))
     unfolding eventPadding restOf
-    event-found u e n st x y ex bs l h =
+    event-found u e n st x y z ez ex bs l h =
         let (b, w) = later-at prev v u l in
         let sum : eventPadding (drop at s) ≡ x + framePadding (drop p s) = ap₂ (λ a c. a + framePadding (restOf c)) ex q in
-        ap (λ z. Read z e n st (x + y)) (sym w) ∙ found (length s) (prev + v) f x (framePadding (drop p s)) y (drop p s) _ e n st bs refl h
+        ap (Read u e n st) ez ∙ ap (λ t. Read t e n st (x + y)) (sym w) ∙ found (length s) (prev + v) f x (framePadding (drop p s)) y (drop p s) _ e n st bs refl h
         ∙ ap₂ (eventStep (length s)) (sym sum) (sym (event-timed b))
 
 -- ---- End_track to the code and to the reader

@@ -1,4 +1,5 @@
 use Rattle.event.specs.Choice.{pick}
+use native.Mathlib.Omega.{arith}
 use mathlib.Core.Path.{refl}
 use borrow.Author.Tests.{eq-eqb, ne-eqb}
 use borrow.Author.Needs.{needs}
@@ -10,11 +11,11 @@ add-result c = search needs
 
 returns : tie.Need-returns
 unfolding pick
-returns c = rw (eq-eqb _ 0 (c .if1 .taken)) refl
+returns c = rw (eq-eqb (c .before .args .acc) 0 (omega (arith, c .if1 .taken))) refl
 
 returns-2 : tie.Need-returns-2
 unfolding pick
-returns-2 c = rw (ne-eqb _ 0 (c .if1 .left)) refl
+returns-2 c = rw (ne-eqb (c .before .args .acc) 0 (omega (arith, c .if1 .left))) refl
 
 pub padding-after-spec : {M : Type 1} → statement M
 padding-after-spec = tie.close (tie.spec add-result returns returns-2)

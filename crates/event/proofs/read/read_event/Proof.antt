@@ -74,7 +74,7 @@ returns-4 c =
     let bytes = bytes-of (a .body .now) (λ i. omega (arith, c .before .before .before .before .before .before .before .before .before .before .before .before .shared-slice-known .given i)) in
     let (q, h) = number-came _ (a .body .now) (a .at) (g .0 .0) (g .0 .1 .0) (sym (c .before .before .before .before .before .before .before .before .before .before .before .read-number .ensures) ∙ g .1) in
     let came = sym (c .before .before .before .before .before .before .before .before .before .before .before .read-number .ensures) ∙ g .1 in
-    event-found (a .body .now) (a .time .0) (a .status) (a .at) (g .0 .0) (g .0 .1 .0) q (c .before .before .before .before .before .t .given .0 .0) (k .0 .0) (k .0 .1 .0) (k .0 .1 .1 .0) (g .0 .1 .1 .0) (k .0 .1 .1 .1 .0) (number-told _ (length (a .body .now)) _ came)
+    event-found (a .body .now) (a .time .0) (a .status) (a .at) (g .0 .0) (g .0 .1 .0) q (c .before .before .before .before .before .t .given .0 .0) (k .0 .0) (k .0 .1 .0) (k .0 .1 .1 .0) (g .0 .1 .1 .0) (k .0 .1 .1 .1 .0) _ (omega arith) (number-told _ (length (a .body .now)) _ came)
     (bytes-drop (a .body .now) (g .0 .1 .0) bytes) (sym (c .before .before .before .before .before .before .before .later .ensures) ∙ c .before .before .before .before .before .t .given .1) (sym (c .before .before .before .after-delta .ensures) ∙ k .1)
 
 pub read-event-spec : {M : Type 1} → statement M

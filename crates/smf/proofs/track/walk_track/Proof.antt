@@ -86,7 +86,7 @@ returns-3 c = let a = c .before .before .before .before .before .before .before 
     let g = c .before .before .before .before .before .time .given in
     let last = sym (c .before .before .before .is-end .ensures) ∙ c .before .before .if1 .taken in
     let x = event-padding (a .body .now) (l .at) (l .prev .0) (l .status) (c .before .before .before .before .before .before .before .read-event .ensures) (g .1) in
-    c .whole .ensures ∙ ap (Whole (g .0 .0) (l .events + 1)) (sym (padding-end bytes e _ x (l .padding) _ last (l .inv .3))) ∙ sym (l .inv .2 ∙ turn-end _ (a .base) (l .events) bytes e last (c .before .if2 .left))
+    c .whole .ensures ∙ ap (Whole (g .0 .0) (l .events + 1)) (omega (arith, padding-end bytes e _ x (l .padding) _ last (l .inv .3))) ∙ sym (l .inv .2 ∙ turn-end _ (a .base) (l .events) bytes e last (c .before .if2 .left))
 
 loop-less : tie.Need-loop-less Inv-loop μ-loop
 loop-less c = let a = c .before .before .before .before .before .before .before .before .args in
@@ -102,7 +102,7 @@ loop-again c = let a = c .before .before .before .before .before .before .before
     let e = event-came (a .body .now) (l .at) (l .prev .0) (l .status) bytes (l .inv .0) (c .before .before .before .before .before .read-event .ensures) (c .before .before .before .time .given .1) in
     let x = event-padding (a .body .now) (l .at) (l .prev .0) (l .status) (c .before .before .before .before .before .read-event .ensures) (c .before .before .before .time .given .1) in
     let last = sym (c .before .is-end .ensures) ∙ c .if1 .left in
-    (e .inside, omega (arith, e .later, e .inside), l .inv .2 ∙ turn-next _ (a .base) (l .events) bytes e last, padding-next bytes e _ x (l .padding) _ last (l .inv .3), omega (arith, e .later, e .inside, padding-taken bytes e _ x, l .inv .4))
+    (e .inside, omega (arith, e .later, e .inside), l .inv .2 ∙ turn-next _ (a .base) (l .events) bytes e last, omega (arith, padding-next bytes e _ x (l .padding) _ last (l .inv .3)), omega (arith, e .later, e .inside, padding-taken bytes e _ x, l .inv .4))
 
 pub walk-track-spec : {M : Type 1} → statement M
 walk-track-spec =
