@@ -39,6 +39,8 @@ static const struct list_case list_cases[] = {
     {"three tracks, one list longer", BYTES(THREE), {3, 4, 3}, NOFERKASH_OK, 0, 3, THREE_LISTED},
     {"format 2", BYTES(ONE_OF_FORMAT("\2")), {1, 1, 1}, NOFERKASH_OK, 0, 1, {{0}, {1}, {0}}},
     {"among other chunks", BYTES(AMONG_OTHERS), {1, 1, 1}, NOFERKASH_OK, 0, 1, {{0}, {1}, {0}}},
+    {"a longer header that holds a track", BYTES(LONG_HEADER CHUNK("\4", "\7\xFF\x2F\0")),
+     {1, 1, 1}, NOFERKASH_OK, 0, 1, {{7}, {1}, {0}}},
     {"other chunks round and between the tracks",
      BYTES(TWO_TRACKS OTHER CHUNK("\5", "\x80" END) HEADER CHUNK("\4", "\7\xFF\x2F\0") OTHER),
      {2, 2, 2}, NOFERKASH_OK, 0, 2, {{0, 7}, {1, 1}, {1, 0}}},
