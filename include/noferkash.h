@@ -12,16 +12,19 @@
  * Chunks with other tags, and what a header has behind its first 14 bytes, are passed
  * over: they are no part of the piece, and no function writes them.
  *
+ * What is written goes to buffers of the caller: one of bytes, `out`, or for
+ * noferkash_list_tracks three lists of 32-bit numbers, one number for each track.
+ *
  * The caller must ensure:
- * - a pointer is valid for as many bytes as the length beside it says; where that
- *   length is 0 it may be NULL;
- * - the two buffers of one call do not overlap, and during the call nobody else
- *   writes to the input, or reads or writes the output.
+ * - a pointer is valid for as many bytes, or numbers of a list, as the length beside
+ *   it says; where that length is 0 it may be NULL;
+ * - the input and the buffers of one call do not overlap, and during the call nobody
+ *   else writes to the input, or reads or writes a buffer.
  *
  * Promised in return, for all bytes and all lengths:
  * - the call ends, and its answer and what it writes depend on nothing but the
- *   input's bytes, `out_len` and the manner;
- * - input is read only, nothing outside the buffers is read or written, and
+ *   input's bytes, the lengths of the buffers and the manner;
+ * - input is read only, nothing outside input and buffers is read or written, and
  *   nothing is kept after the call or allocated in it: any functions may be called
  *   from any number of threads at once, on the same input too;
  * - a refusal writes nothing.
@@ -33,9 +36,9 @@
 #include <stdint.h>
 
 /* Of this header. noferkash_version() has that of the library. */
-#define NOFERKASH_VERSION "0.6.0"
+#define NOFERKASH_VERSION "0.7.0"
 #define NOFERKASH_VERSION_MAJOR 0
-#define NOFERKASH_VERSION_MINOR 6
+#define NOFERKASH_VERSION_MINOR 7
 #define NOFERKASH_VERSION_PATCH 0
 
 /* The largest file, read or written, the largest text read and the largest table, in bytes. */
@@ -47,7 +50,8 @@
 #define NOFERKASH_NUMBER(answer) ((int)((uint64_t)(answer) >> 56))
 /* Where a refusal is: a byte of a file from 0 on, a line of a text from 1 on. */
 #define NOFERKASH_PLACE(answer) ((size_t)((uint64_t)(answer) >> 28 & 0xFFFFFFF))
-/* The length written; with NOFERKASH_ROOM_TOO_SMALL the length needed. */
+/* The length written, in bytes, or of lists in numbers, which is the number of tracks;
+ * with NOFERKASH_ROOM_TOO_SMALL the length needed. */
 #define NOFERKASH_LENGTH(answer) ((size_t)((uint64_t)(answer) & 0xFFFFFFF))
 
 #ifdef __cplusplus
@@ -74,7 +78,7 @@ enum noferkash_number {
     NOFERKASH_BYTES_AFTER_END_TRACK = 12,  /* in the same track; first such byte */
     NOFERKASH_BYTES_AFTER_LAST_TRACK = 13, /* a track more than the header counts; chunk */
 
-    /* Of the buffer `out`; place 0, and the length needed. */
+    /* Of the buffer `out`, or of a list; place 0, and the length needed. */
     NOFERKASH_ROOM_TOO_SMALL = 14,
 
     /* Of texts; places are lines, 0 where the whole is at fault. */
@@ -102,6 +106,24 @@ enum noferkash_number {
 /* Is this a good file? NOFERKASH_OK, or the earliest fault and its place.
  * Length is always 0. */
 uint64_t noferkash_check(const uint8_t *file, size_t file_len);
+
+/* Lists the tracks of the file, in their order, in three lists of 32-bit numbers with
+ * one number for each track:
+ * - `end_times`: the Time of its End_track;
+ * - `event_counts`: how many events it has, End_track included;
+ * - `padding`: how many bytes its variable-length numbers take above the fewest, in
+ *   all its events together. These numbers are the delta of each event, and of system
+ *   exclusive and meta events the length, also where that is fixed. 80 00 in place of
+ *   00 is one such byte. noferkash_tidy writes none.
+ * The three lengths count numbers, not bytes. NOFERKASH_OK and the number of tracks as
+ * length; numbers of a list past it stay. A file has at most 65,535 tracks.
+ *
+ * Refusals, in this order; each leaves all three lists as they were:
+ * - numbers 1 to 13, as noferkash_check answers them;
+ * - NOFERKASH_ROOM_TOO_SMALL when any of the lists is shorter than the number of
+ *   tracks, which the answer gives. So NULL and 0 for each ask for it. */
+uint64_t noferkash_list_tracks(const uint8_t *file, size_t file_len, uint32_t *end_times, size_t end_times_len,
+                               uint32_t *event_counts, size_t event_counts_len, uint32_t *padding, size_t padding_len);
 
 /* Writes the text of the file's piece into the buffer `out`: MIDICSV records, each
  * ended by LF, no NUL after them. NOFERKASH_OK and the length written; bytes of `out`
@@ -205,7 +227,7 @@ uint64_t noferkash_sheet_to_text(const uint8_t *saved, size_t saved_len, uint8_t
  * track"; for every other number "unknown refusal number". */
 const char *noferkash_refusal_words(int number);
 
-/* The version of the library, as "0.6.0". */
+/* The version of the library, as "0.7.0". */
 const char *noferkash_version(void);
 
 #ifdef __cplusplus

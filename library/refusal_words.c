@@ -19,7 +19,7 @@ static const char *const words[] = {
     [NOFERKASH_BYTES_AFTER_END_TRACK] = "bytes after End_track in the track",
     [NOFERKASH_BYTES_AFTER_LAST_TRACK] = "a track more than the header counts",
 
-    [NOFERKASH_ROOM_TOO_SMALL] = "buffer too small",
+    [NOFERKASH_ROOM_TOO_SMALL] = "buffer or list too small",
 
     [NOFERKASH_TEXT_TOO_LONG] = "text over 33,554,432 bytes",
     [NOFERKASH_BAD_FIELD] = "field is no number, name or text in \"straight quotes\"",

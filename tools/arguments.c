@@ -18,7 +18,6 @@ static int is_help(const char *word) {
 }
 
 static int take_flag(char flag, struct request *request) {
-    int converts = request->command != CHECK;
     if (flag == 'x') {
         request->manner = 0;
         return request->command == TO_MIDI || request->command == FROM_SHEET ||
@@ -26,10 +25,10 @@ static int take_flag(char flag, struct request *request) {
     }
     if (flag == 'v') {
         request->verbose = 1;
-        return !converts || wrong_usage("-v goes only with check", "", "");
+        return request->command == CHECK || wrong_usage("-v goes only with check", "", "");
     }
     request->force = 1;
-    return converts || wrong_usage("-f goes only with commands that write", "", "");
+    return writes(request) || wrong_usage("-f goes only with commands that write", "", "");
 }
 
 /* Options that a word follows. */
@@ -43,7 +42,7 @@ static int is_name(const char *word) {
 }
 
 static int take_folder(const char *folder, struct request *request) {
-    if (request->command == CHECK) {
+    if (!writes(request)) {
         return wrong_usage("-d goes only with commands that write", "", "");
     }
     if (request->folder != NULL) {
@@ -141,7 +140,7 @@ static int take_operands(char **operands, size_t count, struct request *request)
     if (request->as_text && request->manner == 0) {
         return wrong_usage("-x does not go with --text", "", "");
     }
-    if (request->command == CHECK) {
+    if (!writes(request)) {
         return take_names(operands, count, request);
     }
     if (request->folder != NULL) {

@@ -107,6 +107,9 @@ enum outcome convert(const struct request *request, const char *name, const stru
     if (request->command == FROM_SHEET) {
         return convert_table(request, name, in, files);
     }
+    if (request->command == TRACKS) {
+        return list_tracks(name, in, files);
+    }
     struct bytes out;
     enum outcome outcome = FAILED;
     if (make_room(name, enough_room(request->command, in->bytes.length), &out)) {

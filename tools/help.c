@@ -1,8 +1,8 @@
 /* What the command line tool says of itself. */
 #include "tool.h"
 
-static const char *const names[COMMANDS] = {"check",      "to-text", "to-midi", "to-sheet",
-                                            "from-sheet", "tidy",    "fold"};
+static const char *const names[COMMANDS] = {"check",    "tracks",     "to-text", "to-midi",
+                                            "to-sheet", "from-sheet", "tidy",    "fold"};
 
 enum command command_named(const char *name) {
     int command = 0;
@@ -14,6 +14,7 @@ enum command command_named(const char *name) {
 
 static const char all[] =
     "usage: noferkash check      [-v]      [FILE...]\n"
+    "       noferkash tracks               [FILE...]\n"
     "       noferkash to-text    [-f]      [IN [OUT]]  |  -d FOLDER FILE...\n"
     "       noferkash to-midi    [-f] [-x] [IN [OUT]]  |  -d FOLDER FILE...\n"
     "       noferkash to-sheet   [-f]      [IN [OUT]]  |  -d FOLDER FILE...\n"
@@ -24,6 +25,7 @@ static const char all[] =
     "       noferkash help [COMMAND] | --version\n"
     "\n"
     "  check       says whether each FILE is a good Standard MIDI File\n"
+    "  tracks      lists the tracks of each FILE and marks those that stop early\n"
     "  to-text     writes a Standard MIDI File as MIDICSV text\n"
     "  to-midi     writes a MIDICSV text as a Standard MIDI File\n"
     "  to-sheet    writes a Standard MIDI File as a table for a spreadsheet\n"
@@ -48,6 +50,20 @@ static const char check[] =
     "is refused, 2 if any cannot be read.\n"
     "\n"
     "  -v         says of each good file how many tracks and bytes it has\n";
+
+static const char tracks[] =
+    "usage: noferkash tracks [FILE...]\n"
+    "\n"
+    "Lists the tracks of each FILE, a Standard MIDI File, on standard output; without FILE it\n"
+    "reads standard input. A line has the number of a track, its name, how many events it\n"
+    "has, the Time of its End_track, the padding (bytes that its variable-length numbers take\n"
+    "above the fewest), how many notes it has, and the Times at which the first and the last\n"
+    "of them begin. In the bar behind them, which is as long as the longest track, # stands\n"
+    "where notes begin. A track with notes whose last note or End_track comes before nine\n"
+    "tenths of the greatest in the file is marked \"<- stops early\".\n"
+    "\n"
+    "The exit status is 0 if all were listed, marked or not, 1 if any is refused, 2 if any\n"
+    "cannot be read or the list cannot be written.\n";
 
 #define FOLDER_OPTION                                                                          \
     "  -d FOLDER  converts each FILE to a file of the same name in FOLDER, which is made if\n" \
@@ -108,8 +124,8 @@ static const char fold[] =
     "\n" FOLDER_OPTION REPLACING "\n";
 
 const char *help_for(enum command command) {
-    static const char *const texts[COMMANDS + 1] = {check,      to_text, to_midi, to_sheet,
-                                                    from_sheet, tidy,    fold,    all};
+    static const char *const texts[COMMANDS + 1] = {
+        check, tracks, to_text, to_midi, to_sheet, from_sheet, tidy, fold, all};
     return texts[command];
 }
 

@@ -146,13 +146,20 @@ int is_standard_output(const char *name) {
     return is_standard(name) || (stat(name, &status) == 0 && is_where_output_goes(&status));
 }
 
-static int put_standard(const struct request *request, struct bytes made,
-                        const struct files *files) {
+int may_print(const struct files *files) {
     struct stat status;
     /* The shell opens it, as in >>, and has not asked us. */
     if (fstat(STDOUT_FILENO, &status) == 0 && S_ISREG(status.st_mode) &&
         is_among(files, &status)) {
         return say_kept("standard output", "is the file that is read; nothing was written");
+    }
+    return 1;
+}
+
+static int put_standard(const struct request *request, struct bytes made,
+                        const struct files *files) {
+    if (!may_print(files)) {
+        return 0;
     }
     /* On a terminal the bytes of a MIDI file help nobody: who forgot OUT is told so. */
     if (!writes_text(request) && isatty(STDOUT_FILENO)) {

@@ -12,7 +12,7 @@
 /* Exit statuses: of several files the greatest counts. */
 enum outcome { GOOD = 0, REFUSED = 1, FAILED = 2 };
 
-enum command { CHECK, TO_TEXT, TO_MIDI, TO_SHEET, FROM_SHEET, TIDY, FOLD, COMMANDS };
+enum command { CHECK, TRACKS, TO_TEXT, TO_MIDI, TO_SHEET, FROM_SHEET, TIDY, FOLD, COMMANDS };
 
 struct bytes {
     uint8_t *at;
@@ -38,7 +38,7 @@ struct files {
 };
 
 /* What the command line asks for. Where `folder` is NULL there is one name at
- * most but for check, and `out` is where it goes. */
+ * most but for check and tracks, and `out` is where it goes. */
 struct request {
     enum command command;
     uint32_t manner;
@@ -55,6 +55,11 @@ struct request {
 /* Whether the name of a file stands for a standard stream. */
 static inline int is_standard(const char *name) {
     return strcmp(name, "-") == 0;
+}
+
+/* Whether it makes something of files, and does not only look at them. */
+static inline int writes(const struct request *request) {
+    return request->command != CHECK && request->command != TRACKS;
 }
 
 /* Whether it writes texts: no MIDI file is replaced by one, but a terminal may show it. */
@@ -96,6 +101,9 @@ enum outcome put_made(const struct request *request, const char *name, struct by
 /* from_sheet.c. The same of a table that a spreadsheet saved. */
 enum outcome convert_table(const struct request *request, const char *name,
                            const struct input *in, struct files *files);
+
+/* tracks.c. Prints the tracks of a file that was read. */
+enum outcome list_tracks(const char *name, const struct input *in, const struct files *files);
 
 /* against.c. Writes what was made of a table, and lists the records in which its piece, the
  * file `file`, differs from that of the file that the request names. The lines of `text`
@@ -155,6 +163,8 @@ int is_open_file(const char *name);
  * there. A file that was written joins `files`. */
 enum outcome put_output(const struct request *request, const char *name, struct bytes made,
                         const struct input *in, struct files *files);
+/* 0, with a line on standard error, if standard output goes to a file of this run. */
+int may_print(const struct files *files);
 /* Whether that name leads to where standard output goes. */
 int is_standard_output(const char *name);
 

@@ -5,7 +5,7 @@
 #include <stdlib.h>
 #include <string.h>
 
-#include "text_cases.h"
+#include "list_cases.h"
 
 static unsigned count, failed;
 
@@ -372,6 +372,106 @@ static void read_limit_cases(uint8_t *file)
                 NOFERKASH_TEXT_CUT_SHORT, READ_LIMIT + 1, only_end, 0);
 }
 
+#define LIST_LIMIT 65535
+
+/* A list with guards round it. */
+struct lent_list {
+    uint32_t before[FENCE], at[LIST_LIMIT + FENCE];
+};
+
+static struct lent_list lists[LISTS];
+
+/* Whether all that is lent holds what is due, or guards where nothing is. */
+static int is_listed(const struct lent_list *list, const uint32_t *due, size_t count)
+{
+    return untouched((const uint8_t *)list->before, (const uint8_t *)list->at) &&
+           memcmp(list->at, due, count * sizeof *due) == 0 &&
+           untouched((const uint8_t *)(list->at + count),
+                     (const uint8_t *)(list->at + LIST_LIMIT + FENCE));
+}
+
+static uint64_t list_tracks(const uint8_t *file, size_t length, const size_t rooms[LISTS])
+{
+    uint32_t *at[LISTS];
+    size_t i;
+
+    memset(lists, GUARD, sizeof lists);
+    for (i = 0; i < LISTS; i++)
+        at[i] = rooms[i] > 0 ? lists[i].at : NULL;
+    return noferkash_list_tracks(file, length, at[0], rooms[0], at[1], rooms[1], at[2], rooms[2]);
+}
+
+static void try_listed(const char *what, const uint8_t *file, size_t length,
+                       const size_t rooms[LISTS], struct due due, const uint32_t *const numbers[LISTS])
+{
+    static uint8_t given[LIMIT + 1];
+    size_t written = due.number == NOFERKASH_OK ? due.length : 0, i;
+    uint64_t answer;
+    int good;
+
+    memcpy(given, file, length);
+    answer = list_tracks(given, length, rooms);
+    good = is_due(answer, due) && memcmp(given, file, length) == 0;
+    for (i = 0; i < LISTS; i++)
+        good = good && is_listed(&lists[i], numbers[i], written);
+    report("list_tracks", rooms[0], what, answer, due, good);
+}
+
+static void listed_cases(void)
+{
+    const struct list_case *c = list_cases;
+    size_t cases_left = sizeof list_cases / sizeof list_cases[0];
+
+    for (; cases_left > 0; cases_left--, c++) {
+        struct due due = {c->number, c->place, c->count};
+        const uint32_t *const numbers[LISTS] = {c->due[0], c->due[1], c->due[2]};
+
+        try_listed(c->what, (const uint8_t *)c->bytes, c->length, c->rooms, due, numbers);
+    }
+}
+
+/* A file of as many tracks as there can be, all empty but the last, which has two events at 3. */
+static size_t fill_most_tracks(uint8_t *file)
+{
+    static const char chunk[] = CHUNK("\4", END), last[] = CHUNK("\10", "\3\x90\1\1" END);
+    size_t at = 14, tracks;
+
+    memcpy(file, TWO_TRACKS, 14);
+    file[10] = file[11] = 0xFF;
+    for (tracks = 1; tracks < LIST_LIMIT; tracks++, at += sizeof chunk - 1)
+        memcpy(file + at, chunk, sizeof chunk - 1);
+    memcpy(file + at, last, sizeof last - 1);
+    return at + sizeof last - 1;
+}
+
+static void list_limit_cases(uint8_t *file)
+{
+    static uint32_t ends[LIST_LIMIT], events[LIST_LIMIT], padding[LIST_LIMIT];
+    const uint32_t *const numbers[LISTS] = {ends, events, padding};
+    struct due most = {NOFERKASH_OK, 0, LIST_LIMIT}, few = {NOFERKASH_ROOM_TOO_SMALL, 0, LIST_LIMIT};
+    struct due one = {NOFERKASH_OK, 0, 1}, too_long = {NOFERKASH_FILE_TOO_LONG, 0, 0};
+    size_t length = fill_most_tracks(file), rooms[LISTS] = {LIST_LIMIT, LIST_LIMIT, LIST_LIMIT}, i;
+
+    for (i = 0; i < LIST_LIMIT; i++)
+        events[i] = 1;
+    ends[LIST_LIMIT - 1] = 3;
+    events[LIST_LIMIT - 1] = 2;
+    try_listed("65,535 tracks", file, length, rooms, most, numbers);
+    for (i = 0; i < LISTS; i++) {
+        rooms[i]--;
+        try_listed("65,535 tracks, a list one short", file, length, rooms, few, numbers);
+        rooms[i]++;
+    }
+    /* The length at byte 24 has a leading 80h. */
+    fill(file, LIMIT);
+    ends[0] = 0;
+    events[0] = 2;
+    padding[0] = 1;
+    try_listed("good, the limit", file, LIMIT, rooms, one, numbers);
+    fill(file, LIMIT + 1);
+    try_listed("good but one over the limit", file, LIMIT + 1, rooms, too_long, numbers);
+}
+
 int main(void)
 {
     /* One more than any file tried, for `filled_and_text`. */
@@ -379,6 +479,8 @@ int main(void)
 
     printf("noferkash %s\n", NOFERKASH_VERSION);
     check_cases(file);
+    listed_cases();
+    list_limit_cases(file);
     try_cases(&tidy, tidy_cases, sizeof tidy_cases / sizeof tidy_cases[0]);
     tidy_limit_cases(file);
     try_cases(&fold, fold_cases, sizeof fold_cases / sizeof fold_cases[0]);

@@ -26,8 +26,20 @@ static uint64_t answer_of(uint64_t number, uint64_t place, uint64_t length) {
 }
 
 static uint8_t one[1];
+static uint32_t one_number[1];
+
+/* Each of the three lists by itself, and all. */
+static void no_lists(const char *what, const void *bytes, size_t length) {
+    uint32_t *some = one_number;
+    uint64_t answer = noferkash_list_tracks(bytes, length, some, 0, some, 0, some, 0);
+    due(what, noferkash_list_tracks(bytes, length, NULL, 0, some, 0, some, 0), answer);
+    due(what, noferkash_list_tracks(bytes, length, some, 0, NULL, 0, some, 0), answer);
+    due(what, noferkash_list_tracks(bytes, length, some, 0, some, 0, NULL, 0), answer);
+    due(what, noferkash_list_tracks(bytes, length, NULL, 0, NULL, 0, NULL, 0), answer);
+}
 
 static void no_output(const char *what, const void *bytes, size_t length) {
+    no_lists(what, bytes, length);
     due(what, noferkash_file_to_text(bytes, length, NULL, 0),
         noferkash_file_to_text(bytes, length, one, 0));
     due(what, noferkash_tidy(bytes, length, NULL, 0), noferkash_tidy(bytes, length, one, 0));
@@ -48,6 +60,7 @@ static void no_input(uint8_t *out, size_t out_len) {
     uint64_t no_file = answer_of(NOFERKASH_FILE_CUT_SHORT, 0, 0);
     uint64_t no_text = answer_of(NOFERKASH_TEXT_CUT_SHORT, 1, 0);
     due("no file", noferkash_check(NULL, 0), no_file);
+    due("no file", noferkash_list_tracks(NULL, 0, NULL, 0, NULL, 0, NULL, 0), no_file);
     due("no file", noferkash_file_to_text(NULL, 0, out, out_len), no_file);
     due("no file", noferkash_tidy(NULL, 0, out, out_len), no_file);
     due("no file", noferkash_fold(NULL, 0, out, out_len), no_file);
@@ -85,6 +98,22 @@ static void foldings(void) {
     due("format 2", noferkash_fold(file, length, NULL, 0), answer_of(NOFERKASH_FORMAT_2, 8, 0));
     due("a port", noferkash_fold((const uint8_t *)port, sizeof port - 1, NULL, 0),
         answer_of(NOFERKASH_PREFIX_OR_PORT, 34, 0));
+}
+
+/* The number of tracks that are to be listed. */
+static void listings(void) {
+    static uint8_t file[14 + 12 * 65];
+    size_t length = many_tracks(1, 65, file);
+    due("65 tracks", noferkash_list_tracks(file, length, NULL, 0, NULL, 0, NULL, 0),
+        answer_of(NOFERKASH_ROOM_TOO_SMALL, 0, 65));
+    due("one list", noferkash_list_tracks(file, length, one_number, 1, NULL, 0, NULL, 0),
+        answer_of(NOFERKASH_ROOM_TOO_SMALL, 0, 65));
+    due("no file, one list", noferkash_list_tracks(NULL, 0, one_number, 1, NULL, 0, NULL, 0),
+        answer_of(NOFERKASH_FILE_CUT_SHORT, 0, 0));
+    if (one_number[0] != 0) {
+        failed++;
+        printf("FAILED: a refusal wrote into a list\n");
+    }
 }
 
 /* What is refused of tables; the length needed of others. */
@@ -142,6 +171,7 @@ int main(void) {
     strcpy((char *)much + written, "\n" END_LINES);
     no_output("file too long", much, strlen((char *)much));
     foldings();
+    listings();
     tables();
 
     for (int number = 1; number <= NOFERKASH_PREFIX_OR_PORT; number++) {

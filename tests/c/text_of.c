@@ -1,5 +1,5 @@
 
-/* Stands after the example of noferkash(3), which it runs: standard input to text. */
+/* Stands after the first example of noferkash(3), which it runs: standard input to text. */
 int main(void) {
     static uint8_t file[NOFERKASH_FILE_LIMIT + 1];
     size_t text_len = 0;

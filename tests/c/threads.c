@@ -1,4 +1,4 @@
-/* threads FILE..: threads that run at once call all seven functions on the same input, each into a
+/* threads FILE..: threads that run at once call all eight functions on the same input, each into a
  * buffer of its own, and must get the answers and the bytes that one thread got before. Each file
  * is taken as it is, cut short, and with a byte changed, so that refusals are met too. */
 #define _XOPEN_SOURCE 700
@@ -14,7 +14,7 @@
 #define GUARD 0xA5
 #define FENCE 16
 
-enum call { CHECK, TO_TEXT, TIDY, FOLD, TO_SHEET, TO_FULL, TO_SHORT, FROM_SHEET, CALLS };
+enum call { CHECK, LIST, TO_TEXT, TIDY, FOLD, TO_SHEET, TO_FULL, TO_SHORT, FROM_SHEET, CALLS };
 
 struct bytes {
     uint8_t *at;
@@ -46,10 +46,26 @@ static size_t buffer_for(const struct input *input) {
     return (text > NOFERKASH_FILE_LIMIT ? text : NOFERKASH_FILE_LIMIT) + FENCE;
 }
 
+/* Three lists, each as long as there are tracks, one behind the other. */
+static uint64_t list(struct bytes file, uint32_t *lists) {
+    size_t count = NOFERKASH_LENGTH(
+        noferkash_list_tracks(file.at, file.length, NULL, 0, NULL, 0, NULL, 0));
+    return noferkash_list_tracks(file.at, file.length, lists, count, lists + count, count,
+                                 lists + 2 * count, count);
+}
+
+static size_t bytes_written(enum call call, uint64_t answer) {
+    size_t length = NOFERKASH_LENGTH(answer);
+    return call == LIST ? 3 * sizeof(uint32_t) * length : length;
+}
+
 static uint64_t run(enum call call, const struct input *input, uint8_t *out) {
     struct bytes file = input->file, text = input->text;
     size_t out_len = buffer_for(input) - FENCE;
     switch (call) {
+    case LIST:
+        /* It comes from malloc, and is aligned for numbers. */
+        return list(file, (uint32_t *)(void *)out);
     case TO_TEXT:
         return noferkash_file_to_text(file.at, file.length, out, out_len);
     case TIDY:
@@ -80,7 +96,7 @@ static void add(const uint8_t *bytes, size_t length) {
     uint8_t *out = room(buffer);
     for (enum call call = CHECK; call < CALLS; call++) {
         input->due[call] = run(call, input, out);
-        size_t written = NOFERKASH_LENGTH(input->due[call]);
+        size_t written = bytes_written(call, input->due[call]);
         input->due_bytes[call] = memcpy(room(written), out, written);
         int good = NOFERKASH_NUMBER(input->due[call]) == NOFERKASH_OK;
         struct bytes made = {input->due_bytes[call], written};
@@ -91,7 +107,7 @@ static void add(const uint8_t *bytes, size_t length) {
 }
 
 static int is_due(enum call call, const struct input *input, uint8_t *out) {
-    size_t written = NOFERKASH_LENGTH(input->due[call]);
+    size_t written = bytes_written(call, input->due[call]);
     memset(out, GUARD, written + FENCE);
     int good = run(call, input, out) == input->due[call] &&
                memcmp(out, input->due_bytes[call], written) == 0;

@@ -32,5 +32,8 @@ void explain_table(const uint8_t *table, size_t table_length, const uint8_t *tex
  * they become octal too. What does not fit is cut, never inside a character or
  * an escape, and then ends with "..". */
 void show_bytes(const uint8_t *bytes, size_t length, size_t most, char *shown);
+/* The same in at most `most` characters, of which each takes up to four bytes; so `shown`
+ * has 4 * most + 1. */
+void show_characters(const uint8_t *bytes, size_t length, size_t most, char *shown);
 
 #endif

@@ -83,6 +83,28 @@ static int is_quoted(struct part written) {
     return rest.length == 1 && rest.at[0] == '"';
 }
 
+/* The byte that so many bytes spell. */
+static uint8_t spelled(const uint8_t *at, size_t length) {
+    if (length == 4) {
+        return (uint8_t)((at[1] - '0') << 6 | (at[2] - '0') << 3 | (at[3] - '0'));
+    }
+    return at[length - 1];
+}
+
+size_t unquote(struct part written, uint8_t *bytes, size_t most) {
+    struct part rest = without_first(written, 1);
+    size_t count = 0;
+    while (count < most && rest.length > 1) {
+        size_t taken = spelling(rest);
+        if (taken == 0) {
+            break;
+        }
+        bytes[count++] = spelled(rest.at, taken);
+        rest = without_first(rest, taken);
+    }
+    return count;
+}
+
 static int is_name(struct part written) {
     size_t at = 0;
     while (at < written.length && is_letter(written.at[at])) {

@@ -38,6 +38,9 @@ int next_field(struct fields *fields, struct field *field);
 /* The field with this number, from 1; 0 if the line has no such field. */
 int field_at(struct part line, size_t number, struct field *field);
 
+/* The bytes that a QUOTED field stands for, but no more than `most`; how many there are. */
+size_t unquote(struct part written, uint8_t *bytes, size_t most);
+
 /* Drops the blanks at both ends. */
 struct part trimmed(struct part part);
 

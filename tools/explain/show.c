@@ -80,14 +80,19 @@ static size_t standing(const uint8_t *bytes, size_t length) {
     return is_unseen(bytes) ? 0 : size;
 }
 
-void show_bytes(const uint8_t *bytes, size_t length, size_t most, char *shown) {
+/* What has to fit: bytes, or characters, of which an escape has four. */
+enum unit { BYTES, CHARACTERS };
+
+static void show(const uint8_t *bytes, size_t length, enum unit unit, size_t most, char *shown) {
     size_t used = 0;
+    size_t fitted = 0;
     /* Where it is cut if it has to be: there ".." still has room. */
     size_t cut = 0;
     while (length > 0) {
         size_t taken = standing(bytes, length);
-        size_t needed = taken > 0 ? taken : 4;
-        if (needed > most - used) {
+        size_t size = taken > 0 ? taken : 4;
+        size_t needed = taken > 0 && unit == CHARACTERS ? 1 : size;
+        if (needed > most - fitted) {
             memcpy(shown + cut, "..", 3);
             return;
         }
@@ -97,10 +102,19 @@ void show_bytes(const uint8_t *bytes, size_t length, size_t most, char *shown) {
             taken = 1;
             snprintf(shown + used, 5, "\\%03o", (unsigned)bytes[0]);
         }
-        used += needed;
+        used += size;
+        fitted += needed;
         bytes += taken;
         length -= taken;
-        cut = used + 2 <= most ? used : cut;
+        cut = fitted + 2 <= most ? used : cut;
     }
     shown[used] = '\0';
+}
+
+void show_bytes(const uint8_t *bytes, size_t length, size_t most, char *shown) {
+    show(bytes, length, BYTES, most, shown);
+}
+
+void show_characters(const uint8_t *bytes, size_t length, size_t most, char *shown) {
+    show(bytes, length, CHARACTERS, most, shown);
 }
