@@ -77,7 +77,8 @@ impl Spelling {
     pub fn padding(&self, piece: &Piece) -> Option<Vec<u32>> {
         let fewest = Spelling::of_manner(piece, Manner::Full)?;
         let tracks = piece.tracks.iter().zip(&self.tracks).zip(&fewest.tracks);
-        let padding = tracks.map(|((track, spelled), fewest)| track_padding(track, spelled, fewest));
+        let padding =
+            tracks.map(|((track, spelled), fewest)| track_padding(track, spelled, fewest));
         Some(padding.collect())
     }
 

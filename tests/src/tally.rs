@@ -16,6 +16,12 @@ impl Tally {
         found.expect("a name of the list").1 += 1;
     }
 
+    /// The same of the sort with this number, for those that are met too often to be
+    /// looked for by name.
+    pub fn met_number(&mut self, number: usize) {
+        self.counts[number].1 += 1;
+    }
+
     pub fn met_if(&mut self, name: &str, met: bool) {
         if met {
             self.met(name);

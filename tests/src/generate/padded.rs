@@ -1,7 +1,7 @@
 //! Files whose variable-length numbers take more bytes than they need, in some tracks and
 //! not in others, in many numbers or in one alone.
 
-use crate::piece::Piece;
+use crate::piece::{Event, Kind, Piece};
 use crate::spelling::{EventSpelling, Manner, Spelling};
 use crate::write_file::{layout, length_of};
 
@@ -21,7 +21,8 @@ pub struct KnownLists {
 
 /// A file for this seed, three in eight damaged.
 pub fn padded_case(seed: u64) -> Vec<u8> {
-    let rng = &mut rng_of(seed);
+    // Another stream than other files of the same seed.
+    let rng = &mut Rng::new(seed ^ 1 << 61);
     let (piece, spelling) = padded(rng);
     match rng.below(8) {
         0..=4 => laid_out(&piece, &spelling),
@@ -33,7 +34,7 @@ pub fn padded_case(seed: u64) -> Vec<u8> {
 /// A good file for this seed. What is due to it comes of the piece and of the widths that
 /// were chosen for its numbers: nothing of the file is read.
 pub fn known_padding(seed: u64) -> KnownLists {
-    let (piece, spelling) = padded(&mut rng_of(seed));
+    let (piece, spelling) = padded(&mut Rng::new(seed ^ 1 << 60));
     let due = [
         piece.tracks.iter().map(|track| track.end_time().0).collect(),
         piece.tracks.iter().map(|track| track.events.len() as u32).collect(),
@@ -42,18 +43,16 @@ pub fn known_padding(seed: u64) -> KnownLists {
     KnownLists { what: seed.to_string(), file: laid_out(&piece, &spelling), due: Ok(due) }
 }
 
-/// Another stream than other files of the same seed.
-fn rng_of(seed: u64) -> Rng {
-    Rng::new(seed ^ 1 << 61)
-}
-
 fn laid_out(piece: &Piece, spelling: &Spelling) -> Vec<u8> {
     layout(piece, spelling).expect("a permitted spelling")
 }
 
 /// A piece and a permitted spelling, half the time with something besides it.
 pub fn padded(rng: &mut Rng) -> (Piece, Spelling) {
-    let piece = if rng.one_in(4) { many_tracks_piece(rng) } else { piece(rng) };
+    let mut piece = if rng.one_in(4) { many_tracks_piece(rng) } else { piece(rng) };
+    if rng.one_in(24) {
+        lengthen(rng, &mut piece);
+    }
     let shortest = Spelling::of_manner(&piece, Manner::Short);
     let mut spelling = shortest.expect("a generated piece has spellings");
     (spelling.header_extra, spelling.unknown) = besides(rng, piece.tracks.len());
@@ -68,6 +67,20 @@ pub fn padded(rng: &mut Rng) -> (Piece, Spelling) {
         }
     }
     (piece, spelling)
+}
+
+/// Some track of so many events that their padding takes more than a byte to count.
+fn lengthen(rng: &mut Rng, piece: &mut Piece) {
+    const TIMES: usize = 20;
+    /// Of longer data once: the file must not pass the limit.
+    const LONG: usize = 300;
+    let track = rng.index(piece.tracks.len());
+    let events = &mut piece.tracks[track].events;
+    let often = |event: Event| {
+        let once = event.kind == Kind::EndTrack || length_of(&event.kind) > Some(LONG);
+        vec![event; if once { 1 } else { TIMES }]
+    };
+    *events = std::mem::take(events).into_iter().flat_map(often).collect();
 }
 
 /// Of those that may be left out none, all or some.
