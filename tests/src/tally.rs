@@ -34,6 +34,10 @@ impl Tally {
         never.map(|(name, _)| name.clone()).collect()
     }
 
+    pub fn count_of(&self, name: &str) -> u64 {
+        self.counts.iter().find(|(known, _)| known == name).expect("a name of the list").1
+    }
+
     /// The one met least often.
     pub fn least(&self) -> (&str, u64) {
         let least = self.counts.iter().min_by_key(|(_, count)| *count);

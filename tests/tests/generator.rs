@@ -178,6 +178,13 @@ fn padded_files_meet_every_sort_of_padding() {
     }
     println!("{CASES} padded files, seeds 0..{CASES}: {}", met.tally.summary());
     assert_eq!(met.tally.missing(), ["over 65535 in a track"]);
+    let names = PaddingCoverage::default().tally.missing();
+    for name in names.iter().filter(|name| name.contains("alone") || name.contains("lists")) {
+        assert!(met.tally.count_of(name) >= 130, "{name} only {} times", met.tally.count_of(name));
+    }
+    for name in names.iter().filter(|name| name.contains(" by ")) {
+        assert!(met.tally.count_of(name) >= 60, "{name} only {} times", met.tally.count_of(name));
+    }
     let counts = counted(numbers.into_iter());
     println!("{CASES} padded files, seeds 0..{CASES}: {counts:?}");
     let numbers: BTreeSet<u8> = counts.keys().copied().collect();

@@ -93,6 +93,8 @@ fn tracks_are_told_apart() {
         (&[END, ONE], &[one, different, behind, ONE_SORT]),
         (&[ONE, "80 80 00 FF 2F 00"], &[different, ONE_SORT, "delta of End_track by 2"]),
         (&[ONE, END, ONE], &[different, before, behind, ONE_SORT]),
+        // A track between is no unknown chunk.
+        (&[ONE, ONE, END], &[different, before, ONE_SORT]),
     ] {
         assert_eq!(padding_told(bodies), due, "{bodies:?}");
     }
