@@ -18,14 +18,28 @@ const PROGRAMS: u32 = 209_709;
 const TRACKS: usize = 65_535;
 
 pub fn padding_limits() -> Vec<KnownLists> {
-    let sysexes = |count: u32| EMPTY_SYSEX.repeat(count as usize);
-    let sysex_track = [&sysexes(SYSEXES)[..], END_BY_5].concat();
+    let mut limits = listed();
+    limits.extend(refused());
+    limits
+}
+
+/// So many of the events that are mostly padding.
+fn sysexes(count: u32) -> Vec<u8> {
+    EMPTY_SYSEX.repeat(count as usize)
+}
+
+/// A track that fills a file to its last byte.
+fn sysex_track() -> Vec<u8> {
+    [&sysexes(SYSEXES)[..], END_BY_5].concat()
+}
+
+fn listed() -> Vec<KnownLists> {
     let shorter = [&sysexes(SYSEXES - 10)[..], END].concat();
     let programs = [PROGRAM, &NEXT_PROGRAM.repeat(PROGRAMS as usize - 1), END].concat();
     vec![
         known(
             "nothing but padded empty sysexes",
-            file_of(&[&sysex_track]),
+            file_of(&[&sysex_track()]),
             Ok([vec![0], vec![SYSEXES + 1], vec![6 * SYSEXES + 5]]),
         ),
         known(
@@ -48,9 +62,14 @@ pub fn padding_limits() -> Vec<KnownLists> {
             file_of(&[&shorter, END, LATE_END_BY_4]),
             Ok([vec![0, 0, 128], vec![SYSEXES - 9, 1, 1], vec![6 * (SYSEXES - 10), 0, 4]]),
         ),
+    ]
+}
+
+fn refused() -> Vec<KnownLists> {
+    vec![
         known(
             "much padding, and a byte over the limit",
-            [&file_of(&[&sysex_track])[..], b"X"].concat(),
+            [&file_of(&[&sysex_track()])[..], b"X"].concat(),
             Err((1, 0)),
         ),
         known(
