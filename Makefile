@@ -13,7 +13,7 @@
 # make bench     one table of times on a file of about 1 MiB: each operation beside the second program and,
 #                if installed, midicsv and csvmidi, and how our time grows (docs/PERFORMANCE.md)
 # make fuzz      TIME=300 SEED=1 FUNCTION=: fuzzes each exported function, or check, file_to_text,
-#                text_to_file, tidy, fold, file_to_sheet or sheet_to_text alone, for so many seconds beside
+#                text_to_file, tidy, fold, list_tracks, file_to_sheet or sheet_to_text alone, for so many seconds beside
 #                the second program
 # make fuzz-planted  that the fuzzer finds planted faults; some minutes
 # make sheets    tries the sheet form in LibreOffice Calc and Gnumeric themselves, where they are installed; some 7 minutes

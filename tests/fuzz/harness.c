@@ -17,10 +17,10 @@ enum { INPUT_MOST = 1 << 21, ROOM_MOST = 1 << 26 };
 /* What the second program did, against which the others are held. */
 struct due {
     uint64_t answer;
-    const uint8_t *made;
+    const uint8_t *made[ROOMS_MOST]; /* NULL before it ran */
 };
 
-static struct lent lent_input, lent_room;
+static struct lent lent_input, lent_rooms[ROOMS_MOST];
 
 static void show(const char *program, uint64_t answer)
 {
@@ -31,8 +31,13 @@ static void show(const char *program, uint64_t answer)
 static void differ(const char *what, const char *program, const struct call *call,
                    uint64_t answer, const struct due *due)
 {
-    fprintf(stderr, "DIFFERENCE: %s: %s (input of %zu bytes, manner %" PRIu32 ", room %zu)\n",
-            function.name, what, call->input_length, call->manner, call->room_length);
+    int r;
+
+    fprintf(stderr, "DIFFERENCE: %s: %s (input of %zu bytes, manner %" PRIu32 ", room",
+            function.name, what, call->input_length, call->manner);
+    for (r = 0; r < function.rooms; r++)
+        fprintf(stderr, " %zu", call->lengths[r]);
+    fprintf(stderr, ")\n");
     show("second:", due->answer);
     show(program, answer);
     abort();
@@ -40,48 +45,66 @@ static void differ(const char *what, const char *program, const struct call *cal
 
 static size_t written(uint64_t answer)
 {
-    return NOFERKASH_NUMBER(answer) == NOFERKASH_OK && function.has_room
-        ? NOFERKASH_LENGTH(answer) : 0;
+    return NOFERKASH_NUMBER(answer) == NOFERKASH_OK ? NOFERKASH_LENGTH(answer) : 0;
 }
 
-/* The answer due, the bytes due, and all past them as filled. */
+static size_t room_size(const struct call *call, int room)
+{
+    return call->lengths[room] * function.unit;
+}
+
+/* The answer due, the bytes due in each room, and all past them as filled. */
 static void look(const char *program, const struct call *call, const uint8_t *data,
                  uint64_t answer, const struct due *due, uint8_t fill)
 {
-    size_t length = written(answer);
+    size_t length = written(answer), size = length * function.unit;
+    int r;
 
     if (answer != due->answer)
         differ("answers", program, call, answer, due);
     if (memcmp(call->input, data, call->input_length) != 0)
         differ("input written", program, call, answer, due);
-    if (length > call->room_length)
-        differ("length over the room", program, call, answer, due);
-    if (memcmp(call->room, due->made, length) != 0)
-        differ("bytes written", program, call, answer, due);
-    if (!all_are(call->room + length, call->room_length - length, fill))
-        differ("room past the bytes written", program, call, answer, due);
+    for (r = 0; r < function.rooms; r++) {
+        if (length > call->lengths[r])
+            differ("length over the room", program, call, answer, due);
+        if (memcmp(call->rooms[r], due->made[r], size) != 0)
+            differ("bytes written", program, call, answer, due);
+        if (!all_are(call->rooms[r] + size, room_size(call, r) - size, fill))
+            differ("room past the bytes written", program, call, answer, due);
+    }
 }
 
 /* A program in blocks of memory of the very sizes, whose edges AddressSanitizer
- * knows. Returns the room, to be freed. */
-static uint8_t *run_in_blocks(const char *program, run_function *run, const uint8_t *data,
-                              struct call call, uint8_t fill, struct due *due)
+ * knows. Leaves the rooms in `made`, to be freed. */
+static void run_in_blocks(const char *program, run_function *run, const uint8_t *data,
+                          struct call call, uint8_t fill, struct due *due,
+                          uint8_t *made[ROOMS_MOST])
 {
     uint8_t *input = malloc(call.input_length);
+    int r, is_first = due->made[0] == NULL;
     uint64_t answer;
 
     memcpy(input, data, call.input_length);
     call.input = input;
-    call.room = malloc(call.room_length);
-    memset(call.room, fill, call.room_length);
-    answer = run(&call);
-    if (due->made == NULL) {
-        due->answer = answer;
-        due->made = call.room;
+    for (r = 0; r < ROOMS_MOST; r++) {
+        made[r] = call.rooms[r] = malloc(room_size(&call, r));
+        memset(made[r], fill, room_size(&call, r));
     }
+    answer = run(&call);
+    if (is_first)
+        due->answer = answer;
+    for (r = 0; is_first && r < ROOMS_MOST; r++)
+        due->made[r] = made[r];
     look(program, &call, data, answer, due, fill);
     free(input);
-    return call.room;
+}
+
+static void free_rooms(uint8_t *made[ROOMS_MOST])
+{
+    int r;
+
+    for (r = 0; r < ROOMS_MOST; r++)
+        free(made[r]);
 }
 
 /* The archive between pages that nobody may touch. */
@@ -89,39 +112,55 @@ static void run_at_edge(const uint8_t *data, struct call call, enum edge edge, u
                         const struct due *due)
 {
     size_t input = lent_offset(&lent_input, call.input_length, edge);
-    size_t room = lent_offset(&lent_room, call.room_length, edge);
     uint64_t answer;
+    int r;
 
     memcpy(lent_input.own + input, data, call.input_length);
-    memset(lent_room.own + room, fill, call.room_length);
     lent_fence(&lent_input, call.input_length, edge, fill);
-    lent_fence(&lent_room, call.room_length, edge, fill);
     call.input = lent_input.shown + input;
-    call.room = lent_room.shown + room;
+    for (r = 0; r < function.rooms; r++) {
+        size_t size = room_size(&call, r), room = lent_offset(&lent_rooms[r], size, edge);
+
+        memset(lent_rooms[r].own + room, fill, size);
+        lent_fence(&lent_rooms[r], size, edge, fill);
+        call.rooms[r] = lent_rooms[r].shown + room;
+    }
     answer = function.archive(&call);
     look("archive:", &call, data, answer, due, fill);
-    if (!lent_fence_holds(&lent_room, call.room_length, edge, fill))
-        differ("bytes outside the room written", "archive:", &call, answer, due);
+    for (r = 0; r < function.rooms; r++)
+        if (!lent_fence_holds(&lent_rooms[r], room_size(&call, r), edge, fill))
+            differ("bytes outside the room written", "archive:", &call, answer, due);
 }
 
-/* The programs on one input in one manner and room: the archive at this edge, or, if
- * it is EDGES, at both, and then the instrumented library too. Returns the answer. The
- * fills differ, so that an answer which hangs on what the room held would show. */
-static uint64_t compare(const uint8_t *data, size_t size, uint32_t manner, size_t room,
-                        enum edge edge)
+/* The programs on one input in one manner, all rooms of one length but for one of
+ * another: the archive at this edge, or, if it is EDGES, at both, and then the
+ * instrumented library too. Returns the answer. The fills differ, so that an answer
+ * which hangs on what the rooms held would show. */
+static uint64_t compare_but(const uint8_t *data, size_t size, uint32_t manner, size_t length,
+                            int but, size_t other, enum edge edge)
 {
-    struct call call = { NULL, size, manner, NULL, room };
-    struct due due = { 0, NULL };
-    uint8_t *made = run_in_blocks("second:", function.second, data, call, 0x5A, &due);
+    struct call call = { NULL, size, manner, { NULL }, { length, length, length } };
+    struct due due = { 0, { NULL } };
+    uint8_t *made[ROOMS_MOST], *again[ROOMS_MOST];
 
-    if (edge == EDGES && function.instrumented != NULL)
-        free(run_in_blocks("instrumented:", function.instrumented, data, call, 0x3C, &due));
+    call.lengths[but] = other;
+    run_in_blocks("second:", function.second, data, call, 0x5A, &due, made);
+    if (edge == EDGES && function.instrumented != NULL) {
+        run_in_blocks("instrumented:", function.instrumented, data, call, 0x3C, &due, again);
+        free_rooms(again);
+    }
     if (edge != EDGE_LOW)
         run_at_edge(data, call, EDGE_HIGH, 0xA5, &due);
     if (edge != EDGE_HIGH)
         run_at_edge(data, call, EDGE_LOW, 0xC3, &due);
-    free(made);
+    free_rooms(made);
     return due.answer;
+}
+
+static uint64_t compare(const uint8_t *data, size_t size, uint32_t manner, size_t length,
+                        enum edge edge)
+{
+    return compare_but(data, size, manner, length, 0, length, edge);
 }
 
 /* A number that hangs on the input alone, so that what is found is found again. */
@@ -135,18 +174,23 @@ static uint32_t hash_of(const uint8_t *data, size_t size)
     return hash ^ hash >> 15;
 }
 
-/* No room, then the rooms round the length needed; for input that is refused some
- * room in which a writer in haste would show; and room that is always enough, where
- * the library may go another way. */
+/* No room, then the rooms round the length needed, of several each one short and each
+ * larger alone; for input that is refused some room in which a writer in haste would
+ * show; and room that is always enough, where the library may go another way. */
 static void compare_in_rooms(const uint8_t *data, size_t size, uint32_t manner, uint32_t hash)
 {
     size_t needed = NOFERKASH_LENGTH(compare(data, size, manner, 0, hash % 2));
     size_t enough = function.enough * size + function.enough_added;
+    int r;
 
     if (needed > 0) {
-        compare(data, size, manner, needed - 1, EDGE_HIGH);
+        for (r = 0; r < function.rooms; r++) {
+            size_t larger = needed + 1 + hash % 64;
+
+            compare_but(data, size, manner, needed, r, needed - 1, EDGE_HIGH);
+            compare_but(data, size, manner, needed, r, larger, EDGE_LOW);
+        }
         compare(data, size, manner, needed, EDGES);
-        compare(data, size, manner, needed + 1 + hash % 64, EDGE_LOW);
     } else {
         compare(data, size, manner, size + 1 + hash % 64, EDGES);
     }
@@ -158,10 +202,13 @@ static void compare_in_rooms(const uint8_t *data, size_t size, uint32_t manner, 
 
 int LLVMFuzzerInitialize(int *argc, char ***argv)
 {
+    int r;
+
     (void)argc;
     (void)argv;
     lent_make(&lent_input, INPUT_MOST, 1);
-    lent_make(&lent_room, ROOM_MOST, 0);
+    for (r = 0; r < function.rooms; r++)
+        lent_make(&lent_rooms[r], ROOM_MOST, 0);
     return 0;
 }
 
@@ -176,7 +223,7 @@ int LLVMFuzzerTestOneInput(const uint8_t *data, size_t size)
     if (size == 0)
         data = none; /* may be NULL */
     hash = hash_of(data, size);
-    if (!function.has_room) {
+    if (function.rooms == 0) {
         compare(data, size, 0, 0, EDGES);
         return 0;
     }

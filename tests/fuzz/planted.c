@@ -27,10 +27,28 @@ static int is_rare_refusal(uint64_t answer)
         || NOFERKASH_NUMBER(answer) == NOFERKASH_STEP_TOO_GREAT;
 }
 
-/* A length written that few inputs have. */
-static int is_rare_success(uint64_t answer)
+/* A length written that few inputs have; of lists, padding that the first track of few has. */
+static int is_rare_success(const struct call *call, uint64_t answer)
 {
-    return NOFERKASH_NUMBER(answer) == NOFERKASH_OK && NOFERKASH_LENGTH(answer) % 32 == 29;
+    uint32_t padding;
+
+    if (NOFERKASH_NUMBER(answer) != NOFERKASH_OK)
+        return 0;
+    if (function.rooms < ROOMS_MOST)
+        return NOFERKASH_LENGTH(answer) % 32 == 29;
+    memcpy(&padding, call->rooms[ROOMS_MOST - 1], sizeof padding);
+    return padding % 8 == 3;
+}
+
+/* The last of the rooms, where the newest is written; NULL if there is none. */
+static uint8_t *last_room(const struct call *call)
+{
+    return function.rooms == 0 ? NULL : call->rooms[function.rooms - 1];
+}
+
+static size_t last_size(const struct call *call)
+{
+    return function.rooms == 0 ? 0 : call->lengths[function.rooms - 1] * function.unit;
 }
 
 /* Faults of a refusal. */
@@ -40,8 +58,8 @@ static uint64_t spoil_refusal(const char *program, const struct call *call, uint
 
     if (is_planted("answer", program))
         answer ^= (uint64_t)1 << 28;
-    if (is_planted("refusal-writes", program) && call->room_length > 0)
-        call->room[call->room_length - 1] ^= 1;
+    if (is_planted("refusal-writes", program) && last_size(call) > 0)
+        last_room(call)[last_size(call) - 1] ^= 1;
     if (is_planted("past-input", program))
         answer += input[call->input_length] & 0;
     if (is_planted("before-input", program))
@@ -56,15 +74,15 @@ static uint64_t spoil_refusal(const char *program, const struct call *call, uint
 /* Faults of a success. */
 static void spoil_success(const char *program, const struct call *call, uint64_t answer)
 {
-    size_t length = NOFERKASH_LENGTH(answer);
-    volatile uint8_t *room = call->room;
+    size_t size = NOFERKASH_LENGTH(answer) * function.unit;
+    volatile uint8_t *room = last_room(call);
 
     if (is_planted("byte", program))
-        room[length / 2] ^= 1;
-    if (is_planted("past-written", program) && call->room_length > length)
-        room[length] ^= 1;
+        room[size / 2] ^= 1;
+    if (is_planted("past-written", program) && last_size(call) > size)
+        room[size] ^= 1;
     if (is_planted("past-room", program))
-        room[call->room_length] ^= 1;
+        room[last_size(call)] ^= 1;
     if (is_planted("before-room", program))
         room[-1] ^= 1;
 }
@@ -73,7 +91,7 @@ uint64_t spoil(const char *program, const struct call *call, uint64_t answer)
 {
     if (is_rare_refusal(answer))
         return spoil_refusal(program, call, answer);
-    if (is_rare_success(answer))
+    if (is_rare_success(call, answer))
         spoil_success(program, call, answer);
     if (call->manner == 257 && is_planted("manner", program))
         return 0;

@@ -6,13 +6,16 @@
 #include <stddef.h>
 #include <stdint.h>
 
-/* What is lent; a function that takes no manner or no room passes them over. */
+/* Rooms that a function takes: none, one of bytes, three lists. */
+enum { ROOMS_MOST = 3 };
+
+/* What is lent; a function that takes no manner or fewer rooms passes them over. */
 struct call {
     const uint8_t *input;
     size_t input_length;
     uint32_t manner;
-    uint8_t *room;
-    size_t room_length;
+    uint8_t *rooms[ROOMS_MOST];
+    size_t lengths[ROOMS_MOST]; /* in units of the function */
 };
 
 typedef uint64_t run_function(const struct call *call);
@@ -22,7 +25,8 @@ enum input_kind { FILES, TEXTS, TABLES };
 struct function {
     const char *name;
     int has_manner;
-    int has_room;
+    int rooms;
+    size_t unit;         /* bytes of one item of a room */
     size_t enough;       /* so many bytes of room for each of input always do; 0: not known */
     size_t enough_added; /* with so many more */
     enum input_kind takes;

@@ -21,6 +21,16 @@ extern "C" {
     ) -> u64;
     fn noferkash_tidy(file: *const u8, file_len: usize, out: *mut u8, out_len: usize) -> u64;
     fn noferkash_fold(file: *const u8, file_len: usize, out: *mut u8, out_len: usize) -> u64;
+    fn noferkash_list_tracks(
+        file: *const u8,
+        file_len: usize,
+        end_times: *mut u32,
+        end_times_len: usize,
+        event_counts: *mut u32,
+        event_counts_len: usize,
+        padding: *mut u32,
+        padding_len: usize,
+    ) -> u64;
     fn noferkash_file_to_sheet(
         file: *const u8,
         file_len: usize,
@@ -64,6 +74,25 @@ pub fn tidy(file: &mut [u8], room: &mut [u8]) -> u64 {
 pub fn fold(file: &mut [u8], room: &mut [u8]) -> u64 {
     // Safe as above.
     unsafe { noferkash_fold(file.as_mut_ptr(), file.len(), room.as_mut_ptr(), room.len()) }
+}
+
+/// The packed answer; on success each list begins with as many numbers as there are tracks:
+/// End_track Times, event counts and padding.
+pub fn list_tracks(file: &mut [u8], lists: [&mut [u32]; 3]) -> u64 {
+    let [times, counts, padding] = lists;
+    // Safe as above, of slices of numbers too.
+    unsafe {
+        noferkash_list_tracks(
+            file.as_mut_ptr(),
+            file.len(),
+            times.as_mut_ptr(),
+            times.len(),
+            counts.as_mut_ptr(),
+            counts.len(),
+            padding.as_mut_ptr(),
+            padding.len(),
+        )
+    }
 }
 
 /// The packed answer; on success `room` begins with the sheet.

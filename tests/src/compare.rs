@@ -1,6 +1,6 @@
 //! An operation of the proved archive beside the second program's: on the same
 //! input, manner and room both must give the same answer and leave the same
-//! bytes.
+//! bytes. Listing the tracks, which lends lists, is in `compare_lists`.
 
 use std::fmt;
 use std::ops::Range;
@@ -25,6 +25,23 @@ pub struct Operation {
     pub manners: bool,
 }
 
+/// What a run compares.
+pub trait Compared {
+    fn name(&self) -> &'static str;
+
+    /// Runs both on the same input; `seed` chooses what is lent.
+    fn compare(&self, seed: u64, input: &[u8]) -> Result<Met, Difference>;
+
+    /// As `Operation::enough` and `Operation::manners`.
+    fn enough(&self, _length: usize) -> usize {
+        0
+    }
+
+    fn manners(&self) -> bool {
+        false
+    }
+}
+
 /// What the two did alike.
 #[derive(Clone, Copy, Debug, PartialEq, Eq)]
 pub struct Met {
@@ -32,6 +49,15 @@ pub struct Met {
     pub place: usize,
     pub room: Room,
     pub manner: u32,
+    /// Of a listing: the room that each of its lists is; `room` is the shortest one's.
+    pub lists: Option<[Room; 3]>,
+}
+
+impl Met {
+    /// Without its length.
+    pub fn answer(&self) -> Answer {
+        Answer { number: self.number, place: self.place, length: 0 }
+    }
 }
 
 /// The lent room beside the length needed.
@@ -56,7 +82,7 @@ impl Room {
     pub const DUE: [Room; 4] = [Room::Exact, Room::OneShort, Room::Larger, Room::Zero];
 
     /// `enough` is 0 if no size is known that is always enough.
-    fn of(room: usize, needed: usize, enough: usize) -> Room {
+    pub(crate) fn of(room: usize, needed: usize, enough: usize) -> Room {
         match room {
             _ if enough > 0 && room == enough => Room::Enough,
             _ if enough > 0 && room + 1 == enough => Room::UnderEnough,
@@ -76,8 +102,8 @@ pub struct Difference {
     pub what: &'static str,
     pub second: u64,
     pub archive: u64,
-    pub manner: u32,
-    pub room: usize,
+    /// Manner and room, or the lists.
+    pub lent: String,
 }
 
 impl Operation {
@@ -125,14 +151,33 @@ impl Operation {
             "answers"
         } else if given.inner() != input || given.fences() != fences {
             "input written"
-        } else if made.bytes != due.bytes {
+        } else if made.all != due.all {
             "room or the bytes round it"
         } else {
             let Answer { number, place, .. } = Answer::unpacked(second);
             let room = Room::of(room, needed, (self.enough)(input.len()));
-            return Ok(Met { number, place, room, manner });
+            return Ok(Met { number, place, room, manner, lists: None });
         };
-        Err(Difference { what, second, archive, manner, room })
+        let lent = format!("manner {manner}, room {room}");
+        Err(Difference { what, second, archive, lent })
+    }
+}
+
+impl Compared for Operation {
+    fn name(&self) -> &'static str {
+        self.name
+    }
+
+    fn compare(&self, seed: u64, input: &[u8]) -> Result<Met, Difference> {
+        Operation::compare(self, seed, input)
+    }
+
+    fn enough(&self, length: usize) -> usize {
+        (self.enough)(length)
+    }
+
+    fn manners(&self) -> bool {
+        self.manners
     }
 }
 
@@ -142,7 +187,7 @@ impl fmt::Display for Difference {
             let Answer { number, place, length } = Answer::unpacked(packed);
             format!("{number} at {place}, length {length} ({packed:#018x})")
         };
-        writeln!(out, "{} (manner {}, room {})", self.what, self.manner, self.room)?;
+        writeln!(out, "{} ({})", self.what, self.lent)?;
         writeln!(out, "    second:  {}", shown(self.second))?;
         write!(out, "    archive: {}", shown(self.archive))
     }
@@ -155,26 +200,38 @@ const FENCE: usize = 16;
 /// The fence before the bytes is up to so many longer, for any alignment.
 const SHIFTS: usize = 8;
 
-/// Bytes with a fence of random ones on either side, at any alignment.
+/// Bytes, or numbers, with a fence of random ones on either side, at any alignment.
 #[derive(Clone)]
-struct Fenced {
-    bytes: Vec<u8>,
+pub(crate) struct Fenced<T> {
+    pub(crate) all: Vec<T>,
     inner: Range<usize>,
 }
 
-impl Fenced {
-    fn new(rng: &mut Rng, inner: &[u8]) -> Fenced {
+impl Fenced<u8> {
+    pub(crate) fn new(rng: &mut Rng, inner: &[u8]) -> Fenced<u8> {
         let start = FENCE + rng.index(SHIFTS);
-        let bytes = [&rng.noise(start), inner, &rng.noise(FENCE)].concat();
-        Fenced { bytes, inner: start..start + inner.len() }
+        let all = [&rng.noise(start), inner, &rng.noise(FENCE)].concat();
+        Fenced { all, inner: start..start + inner.len() }
+    }
+}
+
+impl Fenced<u32> {
+    /// So many random numbers to be lent.
+    pub(crate) fn list(rng: &mut Rng, length: usize) -> Fenced<u32> {
+        let start = FENCE + rng.index(SHIFTS);
+        let noise = rng.noise(4 * (start + length + FENCE));
+        let number = |bytes: &[u8]| u32::from_le_bytes([bytes[0], bytes[1], bytes[2], bytes[3]]);
+        Fenced { all: noise.chunks(4).map(number).collect(), inner: start..start + length }
+    }
+}
+
+impl<T: Clone> Fenced<T> {
+    pub(crate) fn inner(&mut self) -> &mut [T] {
+        &mut self.all[self.inner.clone()]
     }
 
-    fn inner(&mut self) -> &mut [u8] {
-        &mut self.bytes[self.inner.clone()]
-    }
-
-    fn fences(&self) -> [Vec<u8>; 2] {
-        [self.bytes[..self.inner.start].to_vec(), self.bytes[self.inner.end..].to_vec()]
+    pub(crate) fn fences(&self) -> [Vec<T>; 2] {
+        [self.all[..self.inner.start].to_vec(), self.all[self.inner.end..].to_vec()]
     }
 }
 
@@ -196,7 +253,7 @@ fn a_fence_stands_on_either_side() {
     for _ in 0..100 {
         let mut fenced = Fenced::new(rng, b"inner");
         assert_eq!(fenced.inner(), b"inner");
-        assert_eq!(fenced.bytes.len() - fenced.inner.end, FENCE);
+        assert_eq!(fenced.all.len() - fenced.inner.end, FENCE);
         shifts.push(fenced.inner.start - FENCE);
         fences.extend(fenced.fences());
     }

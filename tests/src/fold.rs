@@ -2,7 +2,7 @@
 
 use crate::operations::deliver_file;
 use crate::piece::{Event, Format, Kind, Piece, Time, Track};
-use crate::read_file::{read_with_places, Places};
+use crate::read_file::{read_whole, Places, Whole};
 use crate::refusal::{Answer, Number, Refusal};
 use crate::spelling::Manner;
 
@@ -30,7 +30,7 @@ pub fn fold(file: &[u8], room: &mut [u8]) -> Answer {
 
 /// A lent row for each track is changed by success, 29 and 14, and by no other refusal.
 pub fn fold_rows(file: &[u8], room: &mut [u8], rows: &mut [Row]) -> Answer {
-    let (piece, places) = match read_with_places(file) {
+    let Whole { piece, places, .. } = match read_whole(file) {
         Ok(read) => read,
         Err(refusal) => return refusal.into(),
     };

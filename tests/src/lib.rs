@@ -8,6 +8,7 @@
 pub mod archive;
 pub mod chunk_coverage;
 pub mod compare;
+pub mod compare_lists;
 pub mod coverage;
 pub mod division_coverage;
 pub mod every_division;
@@ -17,6 +18,7 @@ pub mod generate;
 pub mod number;
 pub mod operations;
 pub mod outside;
+pub mod padding_coverage;
 pub mod piece;
 pub mod read_file;
 pub mod read_text;

@@ -12,19 +12,30 @@ pub enum Fault {
     TooLong,
 }
 
-/// The number at the front of `bytes` and how many bytes it takes.
-pub fn read_variable(bytes: &[u8]) -> Result<(u32, usize), Fault> {
+/// A variable-length number as it was read.
+#[derive(Clone, Copy, Debug, PartialEq, Eq)]
+pub struct Variable {
+    pub value: u32,
+    /// The bytes it takes.
+    pub width: usize,
+    /// How many of them are above the fewest that hold the value.
+    pub padding: usize,
+}
+
+/// The number at the front of `bytes`.
+pub fn read_variable(bytes: &[u8]) -> Result<Variable, Fault> {
     let mut value = 0;
-    let mut taken = 0;
+    let mut width = 0;
     loop {
-        let byte = *bytes.get(taken).ok_or(Fault::Ends)?;
-        taken += 1;
-        if taken == 4 && byte >= 0x80 {
+        let byte = *bytes.get(width).ok_or(Fault::Ends)?;
+        width += 1;
+        if width == 4 && byte >= 0x80 {
             return Err(Fault::TooLong);
         }
         value = value << 7 | u32::from(byte & 0x7F);
         if byte < 0x80 {
-            return Ok((value, taken));
+            let fewest = fewest_bytes(value).expect("four bytes of seven bits hold it");
+            return Ok(Variable { value, width, padding: width - fewest });
         }
     }
 }

@@ -2,7 +2,7 @@
 //! what lies past the written length as it was.
 
 use crate::piece::Piece;
-use crate::read_file::read_file;
+use crate::read_file::{read_file, read_whole};
 use crate::read_text::read_text;
 use crate::refusal::{Answer, Number, Refusal};
 use crate::spelling::Manner;
@@ -42,19 +42,27 @@ pub fn tidy(file: &[u8], room: &mut [u8]) -> Answer {
     }
 }
 
-/// Fills the two lists with each track's End_track Time and event count.
-pub fn list_tracks(file: &[u8], end_times: &mut [u32], event_counts: &mut [u32]) -> Answer {
-    let piece = match read_file(file) {
-        Ok(piece) => piece,
+/// Fills the three lists with each track's End_track Time, event count and padding: the
+/// bytes that its variable-length numbers take above the fewest.
+pub fn list_tracks(
+    file: &[u8],
+    end_times: &mut [u32],
+    event_counts: &mut [u32],
+    padding: &mut [u32],
+) -> Answer {
+    let whole = match read_whole(file) {
+        Ok(whole) => whole,
         Err(refusal) => return refusal.into(),
     };
-    let count = piece.tracks.len();
-    if end_times.len() < count || event_counts.len() < count {
+    let tracks = &whole.piece.tracks;
+    let count = tracks.len();
+    if [&*end_times, event_counts, padding].iter().any(|list| list.len() < count) {
         return Answer::room_needed(count);
     }
-    for (index, track) in piece.tracks.iter().enumerate() {
+    for (index, track) in tracks.iter().enumerate() {
         end_times[index] = track.end_time().0;
         event_counts[index] = track.events.len() as u32;
+        padding[index] = whole.padding[index];
     }
     Answer::success(count)
 }

@@ -1,6 +1,6 @@
 //! From the bytes of a file to its piece, or to its earliest fault.
 
-use crate::number::{big_endian, read_variable, Fault};
+use crate::number::{big_endian, read_variable, Fault, Variable};
 use crate::piece::{Delta, Division, Event, Format, Kind, Mode, Piece, TextKind, Time, Track};
 use crate::refusal::{Number, Refusal};
 use crate::FILE_MAX;
@@ -10,28 +10,37 @@ fn refuse<T>(number: Number, place: usize) -> Result<T, Refusal> {
 }
 
 pub fn read_file(file: &[u8]) -> Result<Piece, Refusal> {
-    read_with_places(file).map(|(piece, _)| piece)
+    read_whole(file).map(|whole| whole.piece)
 }
 
 /// Of each track, the place of each event: the first byte of its delta.
 pub type Places = Vec<Vec<usize>>;
 
-pub fn read_with_places(file: &[u8]) -> Result<(Piece, Places), Refusal> {
+/// A piece, and what only its file has.
+pub struct Whole {
+    pub piece: Piece,
+    pub places: Places,
+    /// Of each track, the bytes above the fewest in all its variable-length numbers.
+    pub padding: Vec<u32>,
+}
+
+pub fn read_whole(file: &[u8]) -> Result<Whole, Refusal> {
     if file.len() > FILE_MAX {
         return refuse(Number::FileTooLong, 0);
     }
     let Header { format, count, division, end } = read_header(file)?;
-    let (mut tracks, mut places) = (Vec::new(), Vec::new());
+    let (mut tracks, mut places, mut padding) = (Vec::new(), Vec::new(), Vec::new());
     let mut at = end;
     for _ in 0..count {
         let chunk = track_from(file, at)?;
-        let (track, of_events) = read_track(&file[..chunk.end], chunk.at + CHUNK_START)?;
-        tracks.push(track);
-        places.push(of_events);
+        let read = read_track(&file[..chunk.end], chunk.at + CHUNK_START)?;
+        tracks.push(read.track);
+        places.push(read.places);
+        padding.push(read.padding);
         at = chunk.end;
     }
     no_track_from(file, at)?;
-    Ok((Piece { format, division, tracks }, places))
+    Ok(Whole { piece: Piece { format, division, tracks }, places, padding })
 }
 
 struct Header {
@@ -113,15 +122,23 @@ fn no_track_from(file: &[u8], mut at: usize) -> Result<(), Refusal> {
     Ok(())
 }
 
+/// A track, and what only its file has.
+struct WholeTrack {
+    track: Track,
+    places: Vec<usize>,
+    padding: u32,
+}
+
 /// Reads the events from `at` to the end of `file`, which is the track's end.
-fn read_track(file: &[u8], at: usize) -> Result<(Track, Vec<usize>), Refusal> {
-    let mut reader = Reader { file, at, event: at, time: Time::START, in_force: None };
-    let (mut events, mut places) = (Vec::new(), Vec::new());
+fn read_track(file: &[u8], at: usize) -> Result<WholeTrack, Refusal> {
+    let mut reader = Reader { file, at, event: at, padding: 0, time: Time::START, in_force: None };
+    let (mut events, mut places, mut padding) = (Vec::new(), Vec::new(), 0);
     loop {
         let event = reader.event()?;
         let last = event.kind == Kind::EndTrack;
         events.push(event);
         places.push(reader.event);
+        padding += reader.padding;
         if last {
             break;
         }
@@ -129,7 +146,7 @@ fn read_track(file: &[u8], at: usize) -> Result<(Track, Vec<usize>), Refusal> {
     if reader.at < file.len() {
         return refuse(Number::AfterEndTrack, reader.at);
     }
-    Ok((Track { events }, places))
+    Ok(WholeTrack { track: Track { events }, places, padding })
 }
 
 /// A place within a track; `file` ends where the track does.
@@ -138,6 +155,8 @@ struct Reader<'a> {
     at: usize,
     /// The first byte of the event being read: the place of its faults.
     event: usize,
+    /// The bytes above the fewest in its delta and in its length.
+    padding: u32,
     time: Time,
     in_force: Option<u8>,
 }
@@ -155,8 +174,9 @@ impl<'a> Reader<'a> {
 
     fn variable(&mut self) -> Result<u32, Refusal> {
         match read_variable(&self.file[self.at..]) {
-            Ok((value, taken)) => {
-                self.at += taken;
+            Ok(Variable { value, width, padding }) => {
+                self.at += width;
+                self.padding += padding as u32;
                 Ok(value)
             }
             Err(Fault::Ends) => Err(self.fault(Number::EventCutShort)),
@@ -172,7 +192,7 @@ impl<'a> Reader<'a> {
     }
 
     fn event(&mut self) -> Result<Event, Refusal> {
-        self.event = self.at;
+        (self.event, self.padding) = (self.at, 0);
         let delta = Delta(self.variable()?);
         self.time = self.time.after(delta).ok_or(self.fault(Number::TimeTooGreat))?;
         let first = self.byte()?;

@@ -1,6 +1,7 @@
 //! A run of one operation of both programs over many inputs: what was met of all
 //! that is due, and the differences.
 
+mod lists;
 mod report;
 
 use std::collections::BTreeMap;
@@ -10,11 +11,12 @@ use std::ops::Range;
 use std::time::{Duration, Instant};
 
 use crate::chunk_coverage::ChunkCoverage;
-use crate::compare::{Difference, Met, Operation, Room};
+use crate::compare::{Compared, Difference, Met, Operation, Room};
 use crate::coverage::Coverage;
 use crate::division_coverage::{DivisionCoverage, Given};
 use crate::every_division::Known;
 use crate::generate::{room, Aim, LimitCase, LimitTable, LimitText, Rng};
+use crate::padding_coverage::PaddingCoverage;
 use crate::piece::Piece;
 use crate::refusal::{Answer, Refusal};
 
@@ -33,14 +35,16 @@ pub const GENERATED: &str = "generated";
 pub type Reader = fn(&[u8]) -> Result<Piece, Refusal>;
 
 /// What one operation answered, source by source.
-pub struct Run<'a> {
-    operation: &'a Operation,
+pub struct Run<'a, C = Operation> {
+    operation: &'a C,
     /// Reads what the accepted inputs of `GENERATED` hold, if that is to be seen.
     read: Option<Reader>,
     /// What headers and chunks of all inputs were met, if that is to be seen.
     chunks: Option<ChunkCoverage>,
     /// What divisions of the inputs of `GENERATED` were met, if that is to be seen.
     divisions: Option<DivisionCoverage>,
+    /// What padding the files had, and what lists were lent, if that is to be seen.
+    padding: Option<PaddingCoverage>,
     sources: Vec<Source>,
     /// Name of each aim, and how often it was met.
     aims: Vec<(String, u64)>,
@@ -81,13 +85,14 @@ impl Source {
     }
 }
 
-impl Run<'_> {
-    pub fn of(operation: &Operation) -> Run<'_> {
+impl<C: Compared> Run<'_, C> {
+    pub fn of(operation: &C) -> Run<'_, C> {
         Run {
             operation,
             read: None,
             chunks: None,
             divisions: None,
+            padding: None,
             sources: Vec::new(),
             aims: Vec::new(),
             differences: 0,
@@ -113,6 +118,11 @@ impl Run<'_> {
         Run { divisions: Some(DivisionCoverage::of(given)), ..self }
     }
 
+    /// The same, of files and lists that must meet all that `PaddingCoverage` knows.
+    pub fn of_padding(self) -> Self {
+        Run { padding: Some(PaddingCoverage::default()), ..self }
+    }
+
     /// The same, of which differences are only counted.
     pub fn silent(self) -> Self {
         Run { shown: 0, ..self }
@@ -122,13 +132,7 @@ impl Run<'_> {
         self.differences
     }
 
-    /// The same, of which the generated inputs that are accepted must hold all that
-    /// `Coverage` has.
-    pub fn holding(operation: &Operation, read: Reader) -> Run<'_> {
-        Run { read: Some(read), ..Run::of(operation) }
-    }
-
-    /// Compares on an input for each seed, which chooses manner and room too.
+    /// Compares on an input for each seed, which chooses what is lent too.
     pub fn source(&mut self, name: &'static str, seeds: Range<u64>, make: impl Fn(u64) -> Vec<u8>) {
         let mut source = Source::of(name, seeds.clone());
         for seed in seeds {
@@ -142,6 +146,86 @@ impl Run<'_> {
             }
         }
         self.sources.push(source);
+    }
+
+    /// Counts what was met, which must be this number at this place.
+    fn take_due(
+        &mut self,
+        source: &mut Source,
+        what: &str,
+        input: &[u8],
+        compared: Result<Met, Difference>,
+        due: (u8, usize),
+    ) {
+        if let Some(Met { number, place, .. }) = self.take(source, what, input, compared) {
+            let answer = Answer { number, place, length: 0 };
+            self.expect((number, place) == due, what, answer);
+        }
+    }
+
+    /// Counts what was met, or shows and keeps the difference.
+    fn take(
+        &mut self,
+        source: &mut Source,
+        what: &str,
+        input: &[u8],
+        compared: Result<Met, Difference>,
+    ) -> Option<Met> {
+        source.cases += 1;
+        self.progress(source);
+        match compared {
+            Ok(met) => {
+                let Met { number, place, room, manner, .. } = met;
+                *source.met.entry(Key { number, room, manner }).or_insert(0) += 1;
+                if let Some(chunks) = &mut self.chunks {
+                    chunks.add(input, number, place);
+                }
+                if let (GENERATED, Some(divisions)) = (source.name, &mut self.divisions) {
+                    divisions.add(input, number, place);
+                }
+                if let Some(padding) = &mut self.padding {
+                    padding.add(input, &met);
+                }
+                Some(met)
+            }
+            Err(difference) => {
+                self.differences += 1;
+                if self.differences <= self.shown {
+                    let file = format!("{}-{}", source.name, source.cases - 1);
+                    let kept = keep(self.operation.name(), &file, input);
+                    println!("DIFFERENCE in {}, {what}: {difference}\n    {kept}", source.name);
+                }
+                None
+            }
+        }
+    }
+
+    /// Says now and then how far a long run is.
+    fn progress(&mut self, source: &Source) {
+        if self.said.elapsed() >= PROGRESS {
+            let Source { name, cases, seeds, .. } = source;
+            let (of, due) = (self.operation.name(), seeds.end - seeds.start);
+            eprintln!("{of}: {name}, {cases} of {due}, {} differences", self.differences);
+            self.said = Instant::now();
+        }
+    }
+
+    /// An answer that both give but that is not due counts as a difference.
+    fn expect(&mut self, good: bool, what: &str, answer: Answer) {
+        if !good {
+            self.differences += 1;
+            if self.differences <= self.shown {
+                println!("NOT DUE: {what}: both answer {} at {}", answer.number, answer.place);
+            }
+        }
+    }
+}
+
+impl Run<'_> {
+    /// The same, of which the generated inputs that are accepted must hold all that
+    /// `Coverage` has.
+    pub fn holding(operation: &Operation, read: Reader) -> Run<'_> {
+        Run { read: Some(read), ..Run::of(operation) }
     }
 
     /// The same on texts of the aims in turn; both must give the answer due.
@@ -269,75 +353,6 @@ impl Run<'_> {
             }
         }
         self.sources.push(source);
-    }
-
-    /// Counts what was met, which must be this number at this place.
-    fn take_due(
-        &mut self,
-        source: &mut Source,
-        what: &str,
-        input: &[u8],
-        compared: Result<Met, Difference>,
-        due: (u8, usize),
-    ) {
-        if let Some(Met { number, place, .. }) = self.take(source, what, input, compared) {
-            let answer = Answer { number, place, length: 0 };
-            self.expect((number, place) == due, what, answer);
-        }
-    }
-
-    /// Counts what was met, or shows and keeps the difference.
-    fn take(
-        &mut self,
-        source: &mut Source,
-        what: &str,
-        input: &[u8],
-        compared: Result<Met, Difference>,
-    ) -> Option<Met> {
-        source.cases += 1;
-        self.progress(source);
-        match compared {
-            Ok(met) => {
-                let Met { number, place, room, manner } = met;
-                *source.met.entry(Key { number, room, manner }).or_insert(0) += 1;
-                if let Some(chunks) = &mut self.chunks {
-                    chunks.add(input, number, place);
-                }
-                if let (GENERATED, Some(divisions)) = (source.name, &mut self.divisions) {
-                    divisions.add(input, number, place);
-                }
-                Some(met)
-            }
-            Err(difference) => {
-                self.differences += 1;
-                if self.differences <= self.shown {
-                    let file = format!("{}-{}", source.name, source.cases - 1);
-                    let kept = keep(self.operation.name, &file, input);
-                    println!("DIFFERENCE in {}, {what}: {difference}\n    {kept}", source.name);
-                }
-                None
-            }
-        }
-    }
-
-    /// Says now and then how far a long run is.
-    fn progress(&mut self, source: &Source) {
-        if self.said.elapsed() >= PROGRESS {
-            let Source { name, cases, seeds, .. } = source;
-            let (of, due) = (self.operation.name, seeds.end - seeds.start);
-            eprintln!("{of}: {name}, {cases} of {due}, {} differences", self.differences);
-            self.said = Instant::now();
-        }
-    }
-
-    /// An answer that both give but that is not due counts as a difference.
-    fn expect(&mut self, good: bool, what: &str, answer: Answer) {
-        if !good {
-            self.differences += 1;
-            if self.differences <= self.shown {
-                println!("NOT DUE: {what}: both answer {} at {}", answer.number, answer.place);
-            }
-        }
     }
 }
 

@@ -1,7 +1,7 @@
 //! Spellings: the choices a file leaves open in writing a piece.
 
 use crate::number::fewest_bytes;
-use crate::piece::{Delta, Event, Piece, Time};
+use crate::piece::{Delta, Event, Piece, Time, Track};
 use crate::write_file::length_of;
 
 /// The two manners of writing.
@@ -72,12 +72,33 @@ impl Spelling {
         Some(Spelling { tracks, header_extra: Vec::new(), unknown })
     }
 
+    /// Of each track, by how many bytes the numbers of its events are longer than they need
+    /// be: what a listing tells of the layout.
+    pub fn padding(&self, piece: &Piece) -> Option<Vec<u32>> {
+        let fewest = Spelling::of_manner(piece, Manner::Full)?;
+        let tracks = piece.tracks.iter().zip(&self.tracks).zip(&fewest.tracks);
+        let padding =
+            tracks.map(|((track, spelled), fewest)| track_padding(track, spelled, fewest));
+        Some(padding.collect())
+    }
+
     pub fn of_manner(piece: &Piece, manner: Manner) -> Option<Spelling> {
         Spelling::choose(piece, |shortest| EventSpelling {
             status_left_out: shortest.status_left_out && manner == Manner::Short,
             ..shortest
         })
     }
+}
+
+fn track_padding(track: &Track, spelled: &[EventSpelling], fewest: &[EventSpelling]) -> u32 {
+    let mut padding = 0;
+    for ((event, spelled), fewest) in track.events.iter().zip(spelled).zip(fewest) {
+        padding += spelled.delta_bytes - fewest.delta_bytes;
+        if length_of(&event.kind).is_some() {
+            padding += spelled.length_bytes - fewest.length_bytes;
+        }
+    }
+    padding as u32
 }
 
 /// The delta of `event` after the event `before` it in its track, if any.

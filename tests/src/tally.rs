@@ -16,6 +16,12 @@ impl Tally {
         found.expect("a name of the list").1 += 1;
     }
 
+    /// The same of the sort with this number, for those that are met too often to be
+    /// looked for by name.
+    pub fn met_number(&mut self, number: usize) {
+        self.counts[number].1 += 1;
+    }
+
     pub fn met_if(&mut self, name: &str, met: bool) {
         if met {
             self.met(name);
@@ -26,6 +32,10 @@ impl Tally {
     pub fn missing(&self) -> Vec<String> {
         let never = self.counts.iter().filter(|(_, count)| *count == 0);
         never.map(|(name, _)| name.clone()).collect()
+    }
+
+    pub fn count_of(&self, name: &str) -> u64 {
+        self.counts.iter().find(|(known, _)| known == name).expect("a name of the list").1
     }
 
     /// The one met least often.

@@ -46,12 +46,14 @@ fn streams() {
     assert_eq!(told(&["to-midi"], &text), good(&to_file(&text, 1).unwrap()));
     assert_eq!(told(&["to-midi", "-x"], &text), good(&file));
     assert_eq!(told(&["tidy"], &file), good(&to_file(&text, 1).unwrap()));
-    assert_eq!(told(&["list"], &file), good(b"1, 96, 3\n"));
+    assert_eq!(told(&["list"], &file), good(b"1, 96, 3, 0\n"));
     assert_eq!(told(&["fold"], &file), good(&to_file(&text, 1).unwrap()));
     let sheet = to_sheet(&file).unwrap();
     assert_eq!(told(&["to-sheet"], &file), good(&sheet));
     assert_eq!(told(&["from-sheet"], &sheet), good(&to_file(&text, 1).unwrap()));
     assert_eq!(told(&["from-sheet", "-x", "-", "-"], &sheet), good(&file));
+    let padded = file_of(1, &[hex("80 00 C0 05 80 60 FF 2F 00"), hex("00 FF 2F 80 80 00")]);
+    assert_eq!(told(&["list"], &padded), good(b"1, 96, 2, 2\n2, 0, 1, 2\n"));
     let two = file_of(1, &[hex("00 FF 2F 00"), hex("60 FF 2F 00")]);
     assert_eq!(told(&["fold", "-", "-"], &two), good(&one_track("60 FF 2F 00")));
 }
@@ -76,7 +78,7 @@ fn film_divisions() {
     assert_eq!(told(&["to-midi", "-x"], text), good(&file));
     assert_eq!(told(&["tidy"], &file), good(&short));
     assert_eq!(told(&["fold"], &file), good(&short));
-    assert_eq!(told(&["list"], &file), good(b"1, 96, 3\n"));
+    assert_eq!(told(&["list"], &file), good(b"1, 96, 3, 0\n"));
     assert_eq!(told(&["to-sheet"], &file), good(sheet.as_bytes()));
     assert_eq!(told(&["from-sheet", "-x"], sheet.as_bytes()), good(&file));
     file[12] = 0xE6;

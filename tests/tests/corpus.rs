@@ -82,12 +82,14 @@ fn both_manners_read_back_as_the_same_piece() {
             let back = read_file(&expected_back(name, ending));
             assert!(back.as_ref() == Ok(&piece), "{name}.{ending}");
         }
-        let (mut times, mut counts) = ([0; 64], [0; 64]);
-        let answer = list_tracks(file, &mut times, &mut counts);
+        let (mut times, mut counts, mut padding) = ([0; 64], [0; 64], [9; 64]);
+        let answer = list_tracks(file, &mut times, &mut counts, &mut padding);
         assert_eq!(answer, Answer::success(piece.tracks.len()), "{name}");
         for (index, track) in piece.tracks.iter().enumerate() {
             assert_eq!(times[index], track.events.last().unwrap().time.0, "{name}");
             assert_eq!(counts[index] as usize, track.events.len(), "{name}");
+            // None of the programs that they are of pads.
+            assert_eq!(padding[index], 0, "{name}");
         }
     }
 }

@@ -157,19 +157,20 @@ fn rows_lead_to_the_end_tracks() {
         let answer = fold_rows(&file, &mut vec![0; asked.length], &mut after_success);
         assert_eq!((answer.number, after_success), (0, rows), "seed {seed}");
         assert!(rows[count..].iter().all(|row| *row == UNTOUCHED), "seed {seed}: spare rows");
-        let (mut times, mut counts) = ([0; 64], [0; 64]);
-        list_tracks(&file, &mut times, &mut counts);
+        let mut times = [0; 64];
+        list_tracks(&file, &mut times, &mut [0; 64], &mut [0; 64]);
         let ends = track_ends(&file);
         assert_eq!(ends.len(), count, "seed {seed}");
         for (index, (row, end)) in rows.iter().zip(ends).enumerate() {
             assert_eq!((row.time.0, row.status), (times[index], 0), "seed {seed}");
             let events = &piece.tracks[index].events;
             let before = events.iter().rev().nth(1).map_or(0, |event| event.time.0);
-            let (delta, taken) = read_variable(&file[row.place..end]).unwrap();
-            assert_eq!(delta, row.time.0 - before, "seed {seed}");
-            let bytes = &file[row.place + taken..end];
+            let delta = read_variable(&file[row.place..end]).unwrap();
+            assert_eq!(delta.value, row.time.0 - before, "seed {seed}");
+            let bytes = &file[row.place + delta.width..end];
             assert_eq!(bytes[..2], [0xFF, 0x2F], "seed {seed}");
-            assert_eq!(read_variable(&bytes[2..]), Ok((0, bytes.len() - 2)), "seed {seed}");
+            let length = read_variable(&bytes[2..]).unwrap();
+            assert_eq!((length.value, length.width), (0, bytes.len() - 2), "seed {seed}");
         }
     }
 }

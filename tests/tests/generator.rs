@@ -7,16 +7,20 @@ use std::ops::RangeInclusive;
 
 use common::{folded, tidied, to_text};
 use second::chunk_coverage::ChunkCoverage;
+use second::compare::Compared;
+use second::compare_lists::Listing;
 use second::division_coverage::{DivisionCoverage, Given};
 use second::generate::{
     aims, benchmark_file, chunks_among_tracks_file, chunks_round_track_file, damaged_table_case,
-    file_case, fold_benchmark_file, limit_cases, manner, many_tracks_case, piece, plain_file,
-    plain_text, pulse_piece, random_table_case, room, saved_case, sheet_text_files, short_table,
-    small_benchmark_file, small_chunks_among_tracks_file, small_chunks_round_track_file,
-    small_fold_benchmark_file, spelling, sung_file, text_case, text_limit_cases, Rng,
+    file_case, fold_benchmark_file, known_padding, limit_cases, manner, many_tracks_case,
+    padded_case, piece, plain_file, plain_text, pulse_piece, random_table_case, room, saved_case,
+    sheet_text_files, short_table, small_benchmark_file, small_chunks_among_tracks_file,
+    small_chunks_round_track_file, small_fold_benchmark_file, spelling, sung_file, text_case,
+    text_limit_cases, Rng,
 };
 use second::number::read_variable;
-use second::operations::{check, file_to_text, text_to_file};
+use second::operations::{check, file_to_text, list_tracks, text_to_file};
+use second::padding_coverage::PaddingCoverage;
 use second::piece::{Event, Format, Kind, Piece, Time};
 use second::read_file::read_file;
 use second::refusal::Answer;
@@ -153,6 +157,39 @@ fn other_files_meet_every_good_sort_of_divisions() {
         println!("{what}: {}", met.tally.summary());
         assert_eq!(never_of(&DivisionCoverage::GOOD, &met.tally), [""; 0], "{what}");
     }
+}
+
+/// Every sort of padding and of lists, but for what only files near the limit have.
+#[test]
+fn padded_files_meet_every_sort_of_padding() {
+    const LISTING: Listing = Listing {
+        second: |file, [times, counts, padding]| list_tracks(file, times, counts, padding),
+        archive: |file, [times, counts, padding]| {
+            list_tracks(file, times, counts, padding).packed()
+        },
+    };
+    let mut met = PaddingCoverage::default();
+    let mut numbers = Vec::new();
+    for seed in 0..CASES {
+        let file = padded_case(seed);
+        let compared = LISTING.compare(seed, &file).expect("one and the same program");
+        numbers.push(compared.number);
+        met.add(&file, &compared);
+    }
+    println!("{CASES} padded files, seeds 0..{CASES}: {}", met.tally.summary());
+    assert_eq!(met.tally.missing(), ["over 65535 in a track"]);
+    let names = PaddingCoverage::default().tally.missing();
+    for name in names.iter().filter(|name| name.contains("alone") || name.contains("lists")) {
+        assert!(met.tally.count_of(name) >= 130, "{name} only {} times", met.tally.count_of(name));
+    }
+    for name in names.iter().filter(|name| name.contains(" by ")) {
+        assert!(met.tally.count_of(name) >= 60, "{name} only {} times", met.tally.count_of(name));
+    }
+    let counts = counted(numbers.into_iter());
+    println!("{CASES} padded files, seeds 0..{CASES}: {counts:?}");
+    let numbers: BTreeSet<u8> = counts.keys().copied().collect();
+    assert_eq!(numbers, [0, 2, 3].into_iter().chain(5..=14).collect());
+    assert!(counts.values().all(|count| *count >= 100), "{counts:?}");
 }
 
 /// Half of the spellings have nothing besides the piece.
@@ -352,14 +389,17 @@ fn seeds_give_what_they_gave() {
         // What docs/FROM-MIDICSV.md was measured with.
         hash(|seed| plain_file(&mut Rng::new(seed))),
         hash(|seed| plain_text(&pulse_piece(&mut Rng::new(seed)))),
+        hash(padded_case),
+        hash(|seed| known_padding(seed).file),
     ];
     println!("{hashes:016x?}");
     assert_eq!(hashes, PINNED, "pin anew if the generator was changed on purpose");
 }
 
-const PINNED: [u64; 15] = [
+const PINNED: [u64; 17] = [
     0xe934_9adb_c8b7_e485, 0x9dcb_1ec3_54fa_e190, 0x80ca_d4ff_450a_95d7, 0x8e2b_f0b6_0c94_7c34,
     0xe033_da70_f5c4_6c56, 0xad6d_63cd_359b_c2f5, 0x8e35_28a6_a807_e1ee, 0xca3c_70dc_6607_529d,
     0xf81b_4767_f6fb_1324, 0x3323_4419_3435_bbb6, 0x343b_1c85_3756_3bab, 0x94f6_1f21_8b97_91e6,
-    0x5b1f_3d85_81de_8294, 0xe967_41de_8eff_daea, 0x5eae_1c9f_4fb9_6356,
+    0x5b1f_3d85_81de_8294, 0xe967_41de_8eff_daea, 0x5eae_1c9f_4fb9_6356, 0x0e45_d51b_4523_4d00,
+    0xb5c2_a491_e65f_a085,
 ];

@@ -42,7 +42,8 @@ fn variable_length_numbers() {
     ];
     for (bytes, value) in readings {
         let bytes = hex(bytes);
-        assert_eq!(read_variable(&bytes), Ok((value, bytes.len())), "{bytes:02X?}");
+        let read = read_variable(&bytes).map(|read| (read.value, read.width));
+        assert_eq!(read, Ok((value, bytes.len())), "{bytes:02X?}");
     }
     assert_eq!(read_variable(&hex("80 80 80 80 00")), Err(Fault::TooLong));
 }

@@ -290,9 +290,10 @@ fn a_file_of_just_the_limit_is_accepted() {
 fn as_many_tracks_as_can_be_counted() {
     let file = file_of(1, &vec![hex(END); 65_535]);
     accepted("65,535 tracks", &file);
-    let (mut times, mut counts) = (vec![9; 65_535], vec![9; 65_536]);
-    assert_eq!(list_tracks(&file, &mut times, &mut counts), Answer::success(65_535));
-    assert_eq!((times[65_534], counts[65_534], counts[65_535]), (0, 1, 9));
-    let short = list_tracks(&file, &mut times[..65_534], &mut counts);
+    let (mut times, mut counts, mut padding) = (vec![9; 65_535], vec![9; 65_536], vec![9; 65_535]);
+    let answer = list_tracks(&file, &mut times, &mut counts, &mut padding);
+    assert_eq!(answer, Answer::success(65_535));
+    assert_eq!((times[65_534], counts[65_534], counts[65_535], padding[65_534]), (0, 1, 9, 0));
+    let short = list_tracks(&file, &mut times[..65_534], &mut counts, &mut padding);
     assert_eq!(short, Answer::room_needed(65_535));
 }

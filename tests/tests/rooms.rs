@@ -14,6 +14,8 @@ use second::table::{self, sheet_to_text};
 
 const SEEDS: u64 = 3_000;
 const GUARD: u8 = 0xA5;
+/// What no list of these files has.
+const UNTOUCHED: u32 = 0xA5A5_A5A5;
 
 /// Tries an operation in rooms of every sort, and gives its answer with none.
 fn try_rooms(seed: u64, operation: impl Fn(&mut [u8]) -> Answer) -> Answer {
@@ -109,28 +111,29 @@ fn rooms_for_sheets_and_their_texts() {
 fn rooms_for_lists() {
     for seed in 0..SEEDS {
         let file = file_case(seed);
-        let asked = list_tracks(&file, &mut [], &mut []);
-        let count = asked.length;
-        for (first, second) in [(count, count), (count, count + 3), (count + 2, count)] {
-            let (mut times, mut counts) = (vec![77; first], vec![78; second]);
-            let answer = list_tracks(&file, &mut times, &mut counts);
-            if asked.number == 14 {
-                assert_eq!(answer, Answer::success(count), "seed {seed}");
-                assert!(times[count..].iter().all(|time| *time == 77), "seed {seed}");
-                assert!(counts[count..].iter().all(|number| *number == 78), "seed {seed}");
-                assert!(counts[..count].iter().all(|number| *number >= 1), "seed {seed}");
-            } else {
-                assert_eq!(answer, asked, "seed {seed}");
-                assert!(times.iter().all(|time| *time == 77), "seed {seed}");
+        let asked = list_tracks(&file, &mut [], &mut [], &mut []);
+        let sizes = [0, asked.length.saturating_sub(1), asked.length, asked.length + 3];
+        for first in sizes {
+            for second in sizes {
+                for third in sizes {
+                    try_lists(seed, &file, asked, [first, second, third]);
+                }
             }
         }
-        if asked.number == 14 {
-            for (first, second) in [(count - 1, count), (count, count - 1), (0, count + 9)] {
-                let (mut times, mut counts) = (vec![77; first], vec![78; second]);
-                assert_eq!(list_tracks(&file, &mut times, &mut counts), asked, "seed {seed}");
-                assert!(times.iter().all(|time| *time == 77), "seed {seed}: a list is short");
-                assert!(counts.iter().all(|number| *number == 78), "seed {seed}: a list is short");
-            }
-        }
+    }
+}
+
+/// Lists of these lengths change as far as the tracks go, or not at all.
+fn try_lists(seed: u64, file: &[u8], asked: Answer, lengths: [usize; 3]) {
+    let mut lists = lengths.map(|length| vec![UNTOUCHED; length]);
+    let [times, counts, padding] = &mut lists;
+    let answer = list_tracks(file, times, counts, padding);
+    let count = asked.length;
+    let fits = asked.number == 14 && lengths.iter().all(|length| *length >= count);
+    assert_eq!(answer, if fits { Answer::success(count) } else { asked }, "seed {seed}");
+    for list in &lists {
+        let written = if fits { count } else { 0 };
+        assert!(list[..written].iter().all(|number| *number != UNTOUCHED), "seed {seed}");
+        assert!(list[written..].iter().all(|number| *number == UNTOUCHED), "seed {seed}");
     }
 }

@@ -72,15 +72,18 @@ fn listed_tracks_are_those_of_the_piece() {
     for seed in 0..PIECES {
         let piece = piece(&mut Rng::new(seed));
         let file = write_file(&piece, Manner::Short).unwrap();
-        let (mut times, mut counts) = (vec![5; 30], vec![6; 30]);
+        let (mut times, mut counts, mut padding) = (vec![5; 30], vec![6; 30], vec![7; 30]);
         let count = piece.tracks.len();
-        assert_eq!(list_tracks(&file, &mut times, &mut counts), Answer::success(count));
+        let answer = list_tracks(&file, &mut times, &mut counts, &mut padding);
+        assert_eq!(answer, Answer::success(count));
         for (index, track) in piece.tracks.iter().enumerate() {
             assert_eq!(times[index], track.events.last().unwrap().time.0, "seed {seed}");
             assert_eq!(counts[index] as usize, track.events.len(), "seed {seed}");
         }
         assert!(times[count..].iter().all(|time| *time == 5), "seed {seed}: past the length");
         assert!(counts[count..].iter().all(|count| *count == 6), "seed {seed}: past the length");
+        assert!(padding[..count].iter().all(|bytes| *bytes == 0), "seed {seed}: padding");
+        assert!(padding[count..].iter().all(|bytes| *bytes == 7), "seed {seed}: past the length");
     }
 }
 

@@ -16,6 +16,27 @@ pub unsafe extern "C" fn second_check(file: *const u8, file_len: usize) -> u64 {
     operations::check(slice::from_raw_parts(file, file_len)).packed()
 }
 
+/// # Safety
+/// Each pointer is valid for the length after it and not null, those to numbers aligned;
+/// the slices do not overlap.
+#[no_mangle]
+pub unsafe extern "C" fn second_list_tracks(
+    file: *const u8,
+    file_len: usize,
+    end_times: *mut u32,
+    end_times_len: usize,
+    event_counts: *mut u32,
+    event_counts_len: usize,
+    padding: *mut u32,
+    padding_len: usize,
+) -> u64 {
+    let end_times = slice::from_raw_parts_mut(end_times, end_times_len);
+    let event_counts = slice::from_raw_parts_mut(event_counts, event_counts_len);
+    let padding = slice::from_raw_parts_mut(padding, padding_len);
+    let file = slice::from_raw_parts(file, file_len);
+    operations::list_tracks(file, end_times, event_counts, padding).packed()
+}
+
 /// An operation that takes input, whatever else is named, and room.
 macro_rules! export {
     ($name:ident, $operation:path $(, $argument:ident: $type:ty)?) => {

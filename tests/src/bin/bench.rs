@@ -80,6 +80,8 @@ struct Inputs {
     sheet: Vec<u8>,
     /// What comes of the sheet if nobody changes it.
     sheet_text: Vec<u8>,
+    /// The three lists of its tracks, one behind the other.
+    lists: Vec<u8>,
 }
 
 impl Inputs {
@@ -96,8 +98,32 @@ impl Inputs {
         let sheet = made(sheet::room_enough(file.len()), &|room| sheet::file_to_sheet(&file, room));
         let sheet_text =
             made(table::room_enough(sheet.len()), &|room| table::sheet_to_text(&sheet, room));
-        Inputs { file, tidied, text, folded, sheet, sheet_text }
+        let tracks = operations::list_tracks(&file, &mut [], &mut [], &mut []).length;
+        let lists =
+            made(tracks * TRACK_LISTED, &|room| Answer::unpacked(second_lists(&file, room)));
+        Inputs { file, tidied, text, folded, sheet, sheet_text, lists }
     }
+}
+
+/// A number of 32 bits in each of three lists.
+const TRACK_LISTED: usize = 3 * 4;
+
+fn second_lists(file: &[u8], room: &mut [u8]) -> u64 {
+    in_lists(room, |[times, counts, padding]| {
+        operations::list_tracks(file, times, counts, padding).packed()
+    })
+}
+
+/// A listing with the room as its three lists; the answer has their length in bytes.
+fn in_lists(room: &mut [u8], list: impl FnOnce([&mut [u32]; 3]) -> u64) -> u64 {
+    // Safe: any four bytes are a number.
+    let (before, numbers, _) = unsafe { room.align_to_mut::<u32>() };
+    assert!(before.is_empty(), "rooms are aligned");
+    let tracks = numbers.len() / 3;
+    let (times, others) = numbers.split_at_mut(tracks);
+    let (counts, padding) = others.split_at_mut(tracks);
+    let answer = Answer::unpacked(list([times, counts, padding]));
+    Answer { length: TRACK_LISTED * answer.length, ..answer }.packed()
 }
 
 /// What a contender makes of an input in its room; the packed answer.
@@ -122,7 +148,7 @@ const FILE_TO_SHEET: &str = "file to sheet, buffer 23n";
 const SHEET_TO_TEXT: &str = "sheet to text, buffer 2n+2";
 const SHEET_TEXT_TO_FILE: &str = "text to file, of a sheet";
 
-const TASKS: [Task; 8] = [
+const TASKS: [Task; 9] = [
     // In so much room any file's text fits, and ours measures nothing first.
     Task { name: FILE_TO_TEXT, room: |inputs| 25 * inputs.file.len(), ..TO_TEXT },
     Task { name: "file to text, exact buffer", ..TO_TEXT },
@@ -146,6 +172,7 @@ const TASKS: [Task; 8] = [
     },
     Task { name: SHEET_TEXT_TO_FILE, input: |inputs| &inputs.sheet_text, ..TO_FILE },
     CHECK,
+    LIST,
     TIDY,
 ];
 
@@ -161,10 +188,11 @@ const FOLDS: [(usize, Task); 4] = [
 type Makers = [fn() -> Vec<u8>; 2];
 
 /// Each on files that are mostly unknown chunks.
-const CHUNKS: [(Makers, Task); 4] = [
+const CHUNKS: [(Makers, Task); 5] = [
     (ROUND_TRACK, Task { name: "check, chunks round a track", ..CHECK }),
     (ROUND_TRACK, Task { name: "tidy, chunks round a track", ..TIDY }),
     (AMONG_TRACKS, Task { name: "check, chunks among tracks", ..CHECK }),
+    (AMONG_TRACKS, Task { name: "list, chunks among tracks", ..LIST }),
     (AMONG_TRACKS, Task { name: "tidy, chunks among tracks", ..TIDY }),
 ];
 const ROUND_TRACK: Makers = [chunks_round_track_file, small_chunks_round_track_file];
@@ -176,6 +204,15 @@ const CHECK: Task = Task {
     room: |_| 0,
     ours: |file, _| archive::check(file),
     second: |file, _| operations::check(file).packed(),
+    ..TIDY
+};
+
+const LIST: Task = Task {
+    name: "list",
+    due: |inputs| &inputs.lists,
+    room: |inputs| inputs.lists.len(),
+    ours: |file, room| in_lists(room, |lists| archive::list_tracks(file, lists)),
+    second: |file, room| second_lists(file, room),
     ..TIDY
 };
 

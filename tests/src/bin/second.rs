@@ -79,14 +79,16 @@ fn with_room(operation: impl Fn(&mut [u8]) -> Answer) -> Result<Vec<u8>, Answer>
     Ok(room)
 }
 
-/// One line for each track: its number, End_track Time and event count.
+/// One line for each track: its number, End_track Time, event count and padding.
 fn list(file: &[u8]) -> Result<Vec<u8>, Answer> {
-    let (mut times, mut counts) = (vec![0; 65_535], vec![0; 65_535]);
-    let answer = list_tracks(file, &mut times, &mut counts);
+    let [mut times, mut counts, mut padding] = [(); 3].map(|()| vec![0; 65_535]);
+    let answer = list_tracks(file, &mut times, &mut counts, &mut padding);
     if answer.number != 0 {
         return Err(answer);
     }
-    let line = |index: usize| format!("{}, {}, {}\n", index + 1, times[index], counts[index]);
+    let line = |index: usize| {
+        format!("{}, {}, {}, {}\n", index + 1, times[index], counts[index], padding[index])
+    };
     Ok((0..answer.length).flat_map(|index| line(index).into_bytes()).collect())
 }
 

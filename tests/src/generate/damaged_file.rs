@@ -7,7 +7,12 @@ use super::Rng;
 /// A file aimed at a random one of the numbers 2..13 (1 needs a large file), or at a rule
 /// of header and chunks; 4 is not given.
 pub fn aimed(rng: &mut Rng) -> Vec<u8> {
-    let mut file = RawFile::good(rng);
+    let file = RawFile::good(rng);
+    damaged(rng, file)
+}
+
+/// The same made of a good file.
+pub fn damaged(rng: &mut Rng, mut file: RawFile) -> Vec<u8> {
     match rng.between(2, 15) {
         2 => return cut_short(rng, file),
         3 => bad_header(rng, &mut file.header),

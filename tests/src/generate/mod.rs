@@ -19,6 +19,9 @@
 //!   `chunks_among_tracks_file()` and their small ones likewise.
 //! - `limit_cases()`, `text_limit_cases()`, `fold_limit_cases()`: files, texts and files
 //!   to be folded, at the limits of size and past them, by hand.
+//! - `padded(rng)`: a piece and a spelling of it with padding of all sorts; `padded_case(seed)`:
+//!   its file, good or damaged, so that many seeds together meet all that `PaddingCoverage`
+//!   knows; `known_padding(seed)`, `padding_limits()`: files with the lists due.
 //! - `mutated_copy(rng, file)`, `mutated_text(rng, text)`: with some bytes changed.
 //! - `sung_file(rng)`, `sung_piece(rng)`: with many texts of the sorts that a sheet knows;
 //!   `sheet_text_files()`: files of all short texts, of words and of long ones.
@@ -39,6 +42,8 @@ mod field_damage;
 mod fold_limits;
 mod large;
 mod many_tracks;
+mod padded;
+mod padding_limits;
 mod pieces;
 mod raw_file;
 mod rng;
@@ -61,6 +66,8 @@ pub use damaged_file::mutated_copy;
 pub use damaged_text::mutated_text;
 pub use fold_limits::fold_limit_cases;
 pub use many_tracks::{many_tracks_case, many_tracks_piece};
+pub use padded::{known_padding, padded, padded_case, KnownLists};
+pub use padding_limits::padding_limits;
 pub use pieces::{kind_of, piece, plain_spelling, pulse_piece, spelling, KINDS};
 pub use rng::Rng;
 pub use saving::{opened, saved, saved_in, typed, Cell, Padding, Row, Way, Whole};

@@ -1,7 +1,7 @@
 //! A file in parts, so that one part can be damaged and the rest stay good.
 
 use crate::piece::{Piece, Track};
-use crate::spelling::{EventSpelling, UnknownChunk};
+use crate::spelling::{EventSpelling, Spelling, UnknownChunk};
 use crate::write_file::write_event;
 
 use super::{piece, spelling, Rng};
@@ -51,13 +51,18 @@ impl RawFile {
     pub fn good(rng: &mut Rng) -> RawFile {
         let piece = piece(rng);
         let spelling = spelling(rng, &piece);
+        RawFile::of(&piece, spelling)
+    }
+
+    /// The parts of a layout.
+    pub fn of(piece: &Piece, spelling: Spelling) -> RawFile {
         let mut header = *b"MThd\0\0\0\0\0\0\0\0\0\0";
         let length = 6 + spelling.header_extra.len() as u32;
         header[4..8].copy_from_slice(&length.to_be_bytes());
         header[8..10].copy_from_slice(&piece.format.number().to_be_bytes());
         header[10..12].copy_from_slice(&(piece.tracks.len() as u16).to_be_bytes());
         header[12..14].copy_from_slice(&piece.division.signed().to_be_bytes());
-        let mut tracks = raw_tracks(&piece, &spelling.tracks).into_iter();
+        let mut tracks = raw_tracks(piece, &spelling.tracks).into_iter();
         let chunks = spelling.unknown.into_iter().flat_map(|unknown| {
             unknown.into_iter().map(RawChunk::from).chain(tracks.next()).collect::<Vec<_>>()
         });

@@ -1,6 +1,6 @@
 //! What a run tells at its end, and whether it was good.
 
-use crate::compare::Room;
+use crate::compare::{Compared, Room};
 
 use super::{Key, Run, Source, GENERATED, SHOWN};
 
@@ -12,7 +12,7 @@ const MANNERS: [u32; 5] = [0, 1, 2, 255, u32::MAX];
 /// that is too long (38) such a room would take half a GiB.
 const NEVER_ENOUGH: [u8; 2] = [14, 38];
 
-impl Run<'_> {
+impl<C: Compared> Run<'_, C> {
     fn total(&self, wanted: impl Fn(&Key) -> bool) -> u64 {
         self.sources.iter().map(|source| source.count(&wanted)).sum()
     }
@@ -21,7 +21,7 @@ impl Run<'_> {
     /// be met, and no others. With 14 among them every room due must be met too, and
     /// where some room is always enough, every other number in that room.
     pub fn report(&self, due: &[u8]) -> bool {
-        let name = self.operation.name;
+        let name = self.operation.name();
         println!("{name}: archive against second program, {:.0} seconds", self.seconds());
         self.row("source", |source| source.name.to_owned());
         self.row("seeds", |source| format!("{}..{}", source.seeds.start, source.seeds.end));
@@ -37,7 +37,7 @@ impl Run<'_> {
         let undue: Vec<u8> =
             (0..=255).filter(|number| !due.contains(number) && total(*number) > 0).collect();
         let mut unmet = if due.contains(&14) { self.rooms(due) } else { Vec::new() };
-        if self.operation.manners {
+        if self.operation.manners() {
             unmet.extend(self.manners(due));
         }
         unmet.extend(self.aims_unmet());
@@ -57,7 +57,7 @@ impl Run<'_> {
     /// met.
     fn rooms(&self, due: &[u8]) -> Vec<String> {
         let mut kinds = Room::DUE.to_vec();
-        let enough_known = (self.operation.enough)(1) > 0;
+        let enough_known = self.operation.enough(1) > 0;
         if enough_known {
             kinds.extend([Room::Enough, Room::UnderEnough]);
         }
@@ -142,13 +142,14 @@ impl Run<'_> {
         missing
     }
 
-    /// Prints how often each sort of headers and chunks and of divisions was met; those
-    /// never met.
+    /// Prints how often each sort of headers and chunks, of divisions and of padding was
+    /// met; those never met.
     fn sorts_unmet(&self) -> Vec<String> {
         let chunks = self.chunks.iter().map(|chunks| ("headers and chunks", &chunks.tally));
         let divisions = self.divisions.iter().map(|divisions| ("divisions", &divisions.tally));
         let mut missing = Vec::new();
-        for (what, tally) in chunks.chain(divisions) {
+        let padding = self.padding.iter().map(|padding| ("padding and lists", &padding.tally));
+        for (what, tally) in chunks.chain(divisions).chain(padding) {
             let (name, count) = tally.least();
             println!("  {what}: {}", tally.summary());
             println!("  {what}: each sort at least {count} times ({name})");

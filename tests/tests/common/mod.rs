@@ -93,7 +93,7 @@ pub type Case = (&'static str, Vec<u8>, u8, usize);
 pub fn refused((what, file, number, place): &Case) {
     let answer = Answer { number: *number, place: *place, length: 0 };
     let mut room = [0xAA; 300];
-    let (mut times, mut counts) = ([7; 5], [8; 5]);
+    let (mut times, mut counts, mut padding) = ([7; 5], [8; 5], [9; 5]);
     assert_eq!(check(file), answer, "check: {what}");
     assert_eq!(file_to_text(file, &mut room), answer, "to text: {what}");
     assert_eq!(tidy(file, &mut room), answer, "tidy: {what}");
@@ -107,9 +107,12 @@ pub fn refused((what, file, number, place): &Case) {
     assert_eq!(file_to_sheet(file, &mut room), answer, "to sheet: {what}");
     let fast = fast_text::file_to_text(file, &mut Vec::new());
     assert_eq!(fast.map_err(Answer::from), Err(answer), "fast text: {what}");
-    assert_eq!(list_tracks(file, &mut times, &mut counts), answer, "list: {what}");
-    assert_eq!(list_tracks(file, &mut [], &mut []), answer, "list, no room: {what}");
-    assert_eq!((room, times, counts), ([0xAA; 300], [7; 5], [8; 5]), "written: {what}");
+    let listed = list_tracks(file, &mut times, &mut counts, &mut padding);
+    assert_eq!(listed, answer, "list: {what}");
+    let listed = list_tracks(file, &mut [], &mut [], &mut []);
+    assert_eq!(listed, answer, "list, no room: {what}");
+    assert_eq!((times, counts, padding), ([7; 5], [8; 5], [9; 5]), "listed: {what}");
+    assert_eq!(room, [0xAA; 300], "written: {what}");
 }
 
 /// A text as a string, to be read when a test fails.

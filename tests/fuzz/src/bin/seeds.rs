@@ -10,8 +10,8 @@ use std::path::{Path, PathBuf};
 use std::process::ExitCode;
 
 use second::generate::{
-    aims, damaged_table_case, file_case, many_tracks_case, random_table_case, saved_case,
-    sung_file, text_case, Rng,
+    aims, damaged_table_case, file_case, many_tracks_case, padded_case, random_table_case,
+    saved_case, sung_file, text_case, Rng,
 };
 use second::outside::{expected, outside_files, saved_tables};
 
@@ -44,7 +44,8 @@ fn write_all(folder: &Path) -> io::Result<[usize; 3]> {
     let generated = (0..GENERATED).map(|seed| (format!("generated-{seed}"), file_case(seed)));
     let tracks = (0..GENERATED).map(|seed| (format!("tracks-{seed}"), many_tracks_case(seed)));
     let sung = (0..GENERATED).map(|seed| (format!("sung-{seed}"), sung_file(&mut Rng::new(seed))));
-    let files = outside.iter().cloned().chain(generated).chain(tracks).chain(sung);
+    let padded = (0..GENERATED).map(|seed| (format!("padded-{seed}"), padded_case(seed)));
+    let files = outside.iter().cloned().chain(generated).chain(tracks).chain(sung).chain(padded);
     let files = write(&folder.join("files"), files)?;
 
     let stored = outside.iter().map(|(name, _)| (name.clone(), expected(name, "csv")));

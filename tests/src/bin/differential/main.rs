@@ -6,34 +6,41 @@
 //! converted forth and back is as it was. With fewer cases than `CASES` what was never met is said, but is
 //! no fault.
 
+mod alone;
+
 use std::env;
 use std::process::ExitCode;
 
+use alone::{
+    files_forth_and_back, folded_twice, made, outside_back, outside_folded, outside_listed,
+    outside_texts, outside_tidied, saved_sheets, sheets_forth_and_back, texts_forth_and_back,
+    tidied_listed, tidied_twice,
+};
 use second::archive;
-use second::compare::Operation;
+use second::compare::{Compared, Operation};
+use second::compare_lists::Listing;
 use second::division_coverage::Given;
 use second::every_division;
 use second::fold;
 use second::generate::{
     aims, benchmark_file, damaged_table, damaged_table_case, file_case, fold_limit_cases,
-    good_file, limit_cases, many_tracks_case, mutated_copy, mutated_text, opened, piece,
-    plain_text, random_table_case, saved, saved_case, sheet_text_files, short_table, short_tables,
-    small_benchmark_file, sung_file, table_limit_cases, text_case, text_limit_cases, Rng,
+    known_padding, limit_cases, many_tracks_case, mutated_copy, mutated_text, opened, padded_case,
+    padding_limits, random_table_case, saved, saved_case, sheet_text_files, short_table,
+    short_tables, small_benchmark_file, sung_file, table_limit_cases, text_case, text_limit_cases,
+    Rng,
 };
 use second::operations;
-use second::outside::{expected, expected_back, expected_fold, kept, outside_files, saved_tables};
+use second::outside::{expected, kept, outside_files, saved_tables};
 use second::read_file::read_file;
 use second::read_text::read_text;
-use second::refusal::Answer;
 use second::run::{Run, GENERATED};
 use second::sheet::{self, sheet_of};
-use second::spelling::Manner;
 use second::table;
-use second::write_file::write_file;
 
 const USAGE: &str = "\
 usage: differential [CASES [FIRST_SEED [OPERATION]]], with CASES at least 1000
-OPERATION is check, tidy, file_to_text, text_to_file, fold, file_to_sheet or sheet_to_text";
+OPERATION is check, tidy, file_to_text, text_to_file, fold, list_tracks, file_to_sheet or
+sheet_to_text";
 /// So many meet all that is due; 100,000 do not.
 const CASES: u64 = 500_000;
 /// With fewer some sources would have no case at all.
@@ -56,6 +63,11 @@ const FOLD: Operation = Operation::new(
     |file, _, room| fold::fold(file, room),
     |file, _, room| archive::fold(file, room),
 );
+
+const LIST: Listing = Listing {
+    second: |file, [times, counts, padding]| operations::list_tracks(file, times, counts, padding),
+    archive: archive::list_tracks,
+};
 
 const TEXT: Operation = Operation {
     enough: |length| 25 * length,
@@ -90,9 +102,9 @@ const TABLE: Operation = Operation {
 };
 
 /// The runs of an operation, and what is asked of the archive alone.
-type Part = (&'static Operation, fn(cases: u64, first: u64, few: bool) -> Vec<bool>);
+type Part = (&'static dyn Compared, fn(cases: u64, first: u64, few: bool) -> Vec<bool>);
 
-const PARTS: [Part; 7] = [
+const PARTS: [Part; 8] = [
     (&CHECK, |cases, first, few| {
         let run = of_files(Run::of(&CHECK).of_few(few), |_| Vec::new());
         vec![on_files(run, &read(), cases, first)]
@@ -124,6 +136,10 @@ const PARTS: [Part; 7] = [
         let run = of_files(Run::of(&FOLD).of_few(few), every_division::folded_file);
         vec![on_tracks(run, cases / 4, first), outside_folded(), folded_twice(cases / 10, first)]
     }),
+    (&LIST, |cases, first, few| {
+        let run = Run::of(&LIST).of_few(few).of_chunks().of_divisions(Given::Files).of_padding();
+        vec![on_lists(run, cases / 4, first), outside_listed(), tidied_listed(cases / 10, first)]
+    }),
     (&SHEET, |cases, first, few| {
         let run = of_files(Run::of(&SHEET).of_few(few), every_division::sheet);
         vec![on_sung(run, cases / 16, first)]
@@ -154,7 +170,7 @@ fn main() -> ExitCode {
     };
     let mut good = Vec::new();
     for (operation, part) in PARTS {
-        if only.iter().all(|only| only == operation.name) {
+        if only.iter().all(|only| only == operation.name()) {
             good.extend(part(cases, first, cases < CASES));
         }
     }
@@ -171,7 +187,7 @@ fn words_given() -> Option<(u64, u64, Option<String>)> {
     let cases = words.next().map_or(Ok(CASES), |word| word.parse()).ok()?;
     let first: u64 = words.next().map_or(Ok(0), |word| word.parse()).ok()?;
     let only = words.next();
-    let known = |only: &String| PARTS.iter().any(|(operation, _)| operation.name == only);
+    let known = |only: &String| PARTS.iter().any(|(operation, _)| operation.name() == only);
     if words.next().is_some() || !only.iter().all(known) {
         return None;
     }
@@ -192,7 +208,7 @@ fn on_files(mut run: Run, due: &[u8], cases: u64, first: u64) -> bool {
     run.report(due)
 }
 
-fn file_sources(run: &mut Run, cases: u64, first: u64) {
+fn file_sources<C: Compared>(run: &mut Run<C>, cases: u64, first: u64) {
     let outside: Vec<Vec<u8>> = outside_files().into_iter().map(|(_, file)| file).collect();
     let limits: Vec<Vec<u8>> = limit_cases().into_iter().map(|case| case.file).collect();
     let long = benchmark_file();
@@ -215,6 +231,17 @@ fn on_tracks(mut run: Run, cases: u64, first: u64) -> bool {
     file_sources(&mut run, cases / 2, first);
     // Not 27: no folded step is longer than one of the file. Not 37: it has rows enough.
     run.report(&[written(), vec![29, 31, 32, 33]].concat())
+}
+
+/// Compares list_tracks: on files of which all numbers in its lists are known, on padded
+/// files, good and damaged, and on the same as the others.
+fn on_lists(mut run: Run<Listing>, cases: u64, first: u64) -> bool {
+    run.listed_divisions("divisions");
+    run.known_lists("spelled", first..first + cases / 2, known_padding);
+    run.source("padded", first..first + cases, padded_case);
+    run.list_limits("padding limits", &padding_limits());
+    file_sources(&mut run, cases / 2, first);
+    run.report(&written())
 }
 
 /// Compares file_to_sheet: on files of texts, and on the same as the others.
@@ -288,230 +315,9 @@ fn on_texts(run: Run, cases: u64, first: u64) -> bool {
 }
 
 /// Compares on what the fuzzer found worth keeping, each in several manners and rooms.
-fn on_kept(run: &mut Run, kind: &str) {
+fn on_kept<C: Compared>(run: &mut Run<C>, kind: &str) {
     const TIMES: u64 = 8;
     let kept = kept(kind);
     let cases = TIMES * kept.len() as u64;
     run.source("kept", 0..cases, |seed| kept[(seed / TIMES) as usize].clone());
-}
-
-/// Outside files tidy to what csvmidi makes of their text, whatever their
-/// spelling: as found, in manner 0, and in manner 1, which so tidies to itself.
-fn outside_tidied() -> bool {
-    let (mut files, mut faults) = (0, 0);
-    for (name, file) in outside_files() {
-        files += 1;
-        let short = expected_back(&name, "short.mid");
-        for spelling in [&file, &expected_back(&name, "full.mid"), &short] {
-            if tidied(spelling).as_ref() != Ok(&short) {
-                faults += 1;
-                println!("FAULT: outside file {name}, in some spelling, is tidied wrongly");
-            }
-        }
-    }
-    println!("tidy: {files} outside files in 3 spellings, {faults} faults");
-    faults == 0 && files > 0
-}
-
-/// What the archive tidies it tidies to itself.
-fn tidied_twice(cases: u64, first: u64) -> bool {
-    let (mut count, mut faults) = (0, 0);
-    for seed in first..first + cases {
-        if let Ok(once) = tidied(&file_case(seed)) {
-            count += 1;
-            if tidied(&once).as_ref() != Ok(&once) {
-                faults += 1;
-                println!("FAULT: seed {seed} is tidied to a file which is not tidy");
-            }
-        }
-    }
-    println!("tidy: {count} generated files tidied twice, {faults} faults");
-    faults == 0 && count > 0
-}
-
-/// Outside files have the text that midicsv makes of them, in exact room and in
-/// room that is always enough.
-fn outside_texts() -> bool {
-    let (mut files, mut faults) = (0, 0);
-    for (name, file) in outside_files() {
-        files += 1;
-        let due = Ok(expected(&name, "csv"));
-        let enough = (TEXT.enough)(file.len());
-        if made(archive::file_to_text, &file) != due || made_in(&file, enough) != due {
-            faults += 1;
-            println!("FAULT: outside file {name} has not midicsv's text");
-        }
-    }
-    println!("file_to_text: {files} outside files in 2 rooms, {faults} faults");
-    faults == 0 && files > 0
-}
-
-/// The texts that midicsv made give the files that csvmidi made of them, in both
-/// manners.
-fn outside_back() -> bool {
-    let (mut texts, mut faults) = (0, 0);
-    for (name, _) in outside_files() {
-        texts += 1;
-        for (manner, ending) in [(0, "full.mid"), (1, "short.mid")] {
-            let due = Ok(expected_back(&name, ending));
-            if filed(&expected(&name, "csv"), manner) != due {
-                faults += 1;
-                println!("FAULT: outside text {name} has not csvmidi's file in manner {manner}");
-            }
-        }
-    }
-    println!("text_to_file: {texts} outside texts in 2 manners, {faults} faults");
-    faults == 0 && texts > 0
-}
-
-/// Of the archive alone: a good file's text gives the tidied file in manner 1, and in
-/// manner 0 a file of the same text.
-fn files_forth_and_back(cases: u64, first: u64) -> bool {
-    let (mut count, mut faults) = (0, 0);
-    for seed in first..first + cases {
-        let file = good_file(&mut Rng::new(seed));
-        let Ok(text) = made(archive::file_to_text, &file) else {
-            faults += 1;
-            println!("FAULT: the good file of seed {seed} is refused");
-            continue;
-        };
-        count += 1;
-        let full = filed(&text, 0).and_then(|full| made(archive::file_to_text, &full));
-        if filed(&text, 1) != tidied(&file) || full.as_ref() != Ok(&text) {
-            faults += 1;
-            println!("FAULT: the good file of seed {seed} does not come back from its text");
-        }
-    }
-    println!("text_to_file: {count} good files to text and back, {faults} faults");
-    faults == 0 && count > 0
-}
-
-/// Of the archive alone: a text as document 01 writes it comes back from its file, in
-/// either manner.
-fn texts_forth_and_back(cases: u64, first: u64) -> bool {
-    let mut faults = 0;
-    for seed in first..first + cases {
-        let text = plain_text(&piece(&mut Rng::new(seed)));
-        for manner in [0, 1] {
-            let back = filed(&text, manner).and_then(|file| made(archive::file_to_text, &file));
-            if back.as_ref() != Ok(&text) {
-                faults += 1;
-                println!("FAULT: the text of seed {seed} does not come back in manner {manner}");
-            }
-        }
-    }
-    println!("text_to_file: {cases} texts to file and back in 2 manners, {faults} faults");
-    faults == 0 && cases > 0
-}
-
-/// Outside files fold to what mido merges their tracks to, and those that are not to be
-/// folded have the refusal due.
-fn outside_folded() -> bool {
-    let (mut files, mut refused, mut faults) = (0, 0, 0);
-    for (name, file) in outside_files() {
-        let due = expected_fold(&name);
-        *if due.is_ok() { &mut files } else { &mut refused } += 1;
-        if made(archive::fold, &file) != due {
-            faults += 1;
-            println!("FAULT: outside file {name} is folded wrongly");
-        }
-    }
-    println!("fold: {files} outside files, {refused} refused, {faults} faults");
-    faults == 0 && files > 0
-}
-
-/// Of the archive alone: what it folds it folds and tidies to itself, and how the file
-/// was spelled does not count.
-fn folded_twice(cases: u64, first: u64) -> bool {
-    let (mut count, mut faults) = (0, 0);
-    for seed in first..first + cases {
-        let file = many_tracks_case(seed);
-        let Ok(once) = made(archive::fold, &file) else { continue };
-        count += 1;
-        let tidy_first = tidied(&file).and_then(|file| made(archive::fold, &file));
-        let again = [made(archive::fold, &once), tidied(&once), tidy_first];
-        if again.iter().any(|made| made.as_ref() != Ok(&once)) {
-            faults += 1;
-            println!("FAULT: seed {seed} does not fold to what it folds to again");
-        }
-    }
-    println!("fold: {count} generated files folded twice, {faults} faults");
-    faults == 0 && count > 0
-}
-
-/// What spreadsheets saved of two sheets gives the pieces' files again.
-fn saved_sheets() -> bool {
-    let (mut count, mut faults) = (0, 0);
-    for saved in saved_tables() {
-        count += 1;
-        let text = made(archive::sheet_to_text, &saved.table);
-        if text.and_then(|text| filed(&text, 1)).as_ref() != Ok(&saved.file) {
-            faults += 1;
-            println!("FAULT: {} does not give its file", saved.name);
-        }
-    }
-    println!("sheet_to_text: {count} stored tables to file, {faults} faults");
-    faults == 0 && count > 0
-}
-
-/// A good file comes back from its sheet, saved in some way: tidied in manner 1, and in
-/// manner 0 as the second program writes it.
-fn sheets_forth_and_back(cases: u64, first: u64) -> bool {
-    let mut faults = 0;
-    for seed in first..first + cases {
-        let rng = &mut Rng::new(seed);
-        let file = sung_file(rng);
-        let full = write_file(&read_file(&file).expect("a good file"), Manner::Full);
-        let text = made(archive::file_to_sheet, &file)
-            .map(|sheet| saved(rng, &opened(&sheet)))
-            .and_then(|table| made(archive::sheet_to_text, &table));
-        let back = |manner| text.clone().and_then(|text| filed(&text, manner));
-        if back(1) != tidied(&file) || back(0).ok() != full {
-            faults += 1;
-            println!("FAULT: the file of seed {seed} does not come back from its sheet");
-        }
-    }
-    println!(
-        "sheet_to_text: {cases} files to sheet, saved, and back in 2 manners, {faults} faults"
-    );
-    faults == 0 && cases > 0
-}
-
-/// The file that the archive makes of a text.
-fn filed(text: &[u8], manner: u32) -> Result<Vec<u8>, Answer> {
-    match manner {
-        0 => made(|text, room| archive::text_to_file(text, 0, room), text),
-        _ => made(|text, room| archive::text_to_file(text, 1, room), text),
-    }
-}
-
-/// What the archive tidies a file to.
-fn tidied(file: &[u8]) -> Result<Vec<u8>, Answer> {
-    made(archive::tidy, file)
-}
-
-/// What the archive makes of a file in just enough room.
-fn made(run: fn(&mut [u8], &mut [u8]) -> u64, file: &[u8]) -> Result<Vec<u8>, Answer> {
-    let mut file = file.to_vec();
-    let asked = Answer::unpacked(run(&mut file, &mut []));
-    if asked.number != 14 {
-        return Err(asked);
-    }
-    let mut room = vec![0; asked.length];
-    match Answer::unpacked(run(&mut file, &mut room)) {
-        answer if answer == Answer::success(asked.length) => Ok(room),
-        answer => Err(answer),
-    }
-}
-
-/// The text that the archive makes of a file in room of this size.
-fn made_in(file: &[u8], size: usize) -> Result<Vec<u8>, Answer> {
-    let mut room = vec![0; size];
-    match Answer::unpacked(archive::file_to_text(&mut file.to_vec(), &mut room)) {
-        Answer { number: 0, place: 0, length } if length <= size => {
-            room.truncate(length);
-            Ok(room)
-        }
-        answer => Err(answer),
-    }
 }
