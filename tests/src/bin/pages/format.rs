@@ -8,12 +8,13 @@ use super::{answer_to_text, cells, file_of_text, quoted, refused, text_of_file, 
 
 /// A table's head, the least number of its rows, and what tries a row.
 type Table = (&'static str, usize, fn(&str, &str, &mut Tally) -> Option<()>);
-const TABLES: [Table; 5] = [
+const TABLES: [Table; 6] = [
     ("| Bytes | Number |", 16, number),
     ("| Bytes of an event | Record, without Track and Time |", 8, event),
     ("| File | Answer |", 25, file),
     ("| Line | Answer |", 44, line),
     ("| Text | Answer |", 15, text),
+    ("| File | Padding |", 12, padding),
 ];
 /// The place of the first event in a file.
 const EVENTS: usize = 22;
@@ -89,6 +90,17 @@ fn event(bytes: &str, due: &str, tally: &mut Tally) -> Option<()> {
 fn file(file: &str, due: &str, tally: &mut Tally) -> Option<()> {
     let checked = archive::check(&mut file_of(file)?);
     tally.expect(file, Answer::unpacked(checked), answer_of(due)?);
+    Some(())
+}
+
+/// `1, 0` is due to a file of two tracks, in lists that just have room.
+fn padding(file: &str, due: &str, tally: &mut Tally) -> Option<()> {
+    let due: Vec<u32> = due.split(", ").map(|number| number.parse().ok()).collect::<Option<_>>()?;
+    let (mut times, mut counts, mut listed) = (due.clone(), due.clone(), vec![u32::MAX; due.len()]);
+    let lists = [&mut times[..], &mut counts[..], &mut listed[..]];
+    let answer = archive::list_tracks(&mut file_of(file)?, lists);
+    tally.expect(file, Answer::unpacked(answer), Answer::success(due.len()));
+    tally.equal(file, &listed[..], &due[..]);
     Some(())
 }
 
