@@ -15,10 +15,9 @@ list-tracks-requires c κs = search needs
 
 pack-requires : tie.Need-pack-requires
 pack-requires c κs =
-    let a = c .before .before .before .before .before .before .before .before .before .before .before .before .before .before .args in
-    let s = a .file .now in
+    let s = c .before .before .before .before .before .before .before .before .before .before .before .before .before .before .args .file .now in
     let bytes = bytes-of s (λ i. omega (arith, c .before .before .before .before .before .before .before .before .before .before .before .before .before .shared-slice-known .given i)) in
-    small _ _ (c .before .before .before .before .before .before .list-tracks .ensures .0) (list-fits (length (a .ends .now)) (length (a .counts .now)) (length (a .padding .now)) s bytes)
+    small _ _ (c .before .before .before .before .before .before .list-tracks .ensures .0) (list-fits _ _ _ s bytes)
 
 same-length : tie.Need-same-length
 same-length c = search needs
