@@ -13,6 +13,8 @@ pub mod PlaceLaws
 pub mod LoopLaws
 pub mod RowLaws
 pub mod StatusLaws
+pub mod Table
+pub mod SortLaws
 pub mod StepLaws
 pub mod DataLaws
 pub mod MannerLaws

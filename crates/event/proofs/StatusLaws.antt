@@ -26,6 +26,13 @@ pub meta-none : (s : List ℕ) (at : ℕ) → length s ≤ at → Refused 6 ≡ 
 unfolding readMeta frameStep
 meta-none s at h = rw (drop-of-length-le s h)
 
+-- "F1..F6, F8..FE"
+pub record Other (b : ℕ) : Type 0 where
+  pub high : 240 ≤ b
+  pub plain : b ≡ 240 → ⊥
+  pub packet : b ≡ 247 → ⊥
+  pub meta : b ≡ 255 → ⊥
+
 module _ (s : List ℕ) (f at : ℕ) (h : at < length s) where
   abbrev b : ℕ
   b = getD s at 0
@@ -35,17 +42,13 @@ module _ (s : List ℕ) (f at : ℕ) (h : at < length s) where
 
   -- ---- from the status byte on, with f in force
 
-  pub frame-data : b < 128 → 128 ≤ f → f < 240 → readFrame f (drop at s) ≡ channelData f (drop at s)
-  unfolding readFrame check pick
-  frame-data low lo hi = rw there (simp (le-leb b 127 (omega arith), channel-is f (lo, hi)))
+  pub frame-data : b < 128 → readFrame f (drop at s) ≡ check (isChannel f) 8 0 (channelData f (drop at s))
+  unfolding readFrame pick
+  frame-data low = rw there (simp (le-leb b 127 (omega arith)))
 
-  pub frame-data-none : b < 128 → isChannel f ≡ false → Refused 8 ≡ frameStep (length s) (readFrame f (drop at s))
-  unfolding readFrame check pick frameStep
-  frame-data-none low e = simp (there, le-leb b 127 (omega arith), e)
-
-  pub frame-channel : 128 ≤ b → b < 240 → readFrame f (drop at s) ≡ channelData b (drop (at + 1) s)
+  pub frame-channel : 128 ≤ b → b < 240 → readFrame f (drop at s) ≡ check (isChannel b) 8 0 (channelData b (drop (at + 1) s))
   unfolding readFrame check pick
-  frame-channel lo hi = simp (there, lt-leb b 127 lo, le-leb b 239 (omega arith))
+  frame-channel lo hi = simp (there, lt-leb b 127 lo, le-leb b 239 (omega arith), channel-is b (lo, hi))
 
   pub frame-exclusive : (b ≡ 240) ⊎ (b ≡ 247) → readFrame f (drop at s) ≡ readExclusive b (drop (at + 1) s)
   unfolding readFrame pick
@@ -56,10 +59,10 @@ module _ (s : List ℕ) (f at : ℕ) (h : at < length s) where
   unfolding readFrame pick
   frame-meta e = simp (there, e)
 
-  pub frame-other : 240 ≤ b → (b ≡ 240 → ⊥) → (b ≡ 247 → ⊥) → (b ≡ 255 → ⊥) → Refused 8 ≡ frameStep (length s) (readFrame f (drop at s))
+  pub frame-other : Other b → Refused 8 ≡ frameStep (length s) (readFrame f (drop at s))
   unfolding readFrame pick frameStep
-  frame-other high e1 e2 e3 =
-      simp (there, lt-leb b 127 (omega arith), lt-leb b 239 high, ne-eqb b 255 e3, ne-eqb b 240 e1, ne-eqb b 247 e2)
+  frame-other o =
+      simp (there, lt-leb b 127 (omega (arith, o .high)), lt-leb b 239 (o .high), ne-eqb b 255 (o .meta), ne-eqb b 240 (o .plain), ne-eqb b 247 (o .packet))
 
   -- ---- from the type of a meta event on
 

@@ -8,6 +8,7 @@ pub mod Spelling
 pub mod Layout
 pub mod Manner
 pub mod Outcome
+pub mod Sort
 pub mod Reader
 pub mod Padding
 pub mod PaddingCases

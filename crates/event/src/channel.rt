@@ -2,11 +2,15 @@
 ghost use mathlib.Core.Path.{_≡_};
 ghost use lib.ListN.{length, drop};
 ghost use Rattle.event.specs.Frame.{channel1, channel2};
-ghost use Rattle.event.specs.Reader.{dataByte, oneData, twoData, channelData};
+ghost use Rattle.event.specs.Reader.{dataByte, oneData, twoData, channelData, isChannel};
+ghost use Rattle.event.specs.Outcome.{check};
+ghost use Rattle.event.specs.Sort.{sortOf};
 ghost use Rattle.event.specs.Step.{byteStep, frameAt, frameStep};
 use super::ByteStep;
 use super::EventKind;
 use super::FrameStep;
+use super::sort::ONE_FOLLOWS;
+use super::sort::TWO_FOLLOW;
 
 fn data_byte(body: &[u8], at: usize) -> ByteStep
     ensures { λ r. ⌜ r ≡ byteStep (length (now (body .entry))) (dataByte (drop at (now (body .entry)))) ⌝ }
@@ -101,13 +105,15 @@ fn two_bytes(body: &[u8], at: usize, status: u8) -> FrameStep
     }
 }
 
-// The data bytes of a channel event, from a place on.
-pub fn channel_event(body: &[u8], at: usize, status: u8) -> FrameStep
-    ensures { λ r. ⌜ r ≡ frameStep (length (now (body .entry))) (channelData status (drop at (now (body .entry)))) ⌝ }
+// A channel event of a status, written or in force, from its data bytes on; sort is what the table says of the
+// status.
+pub fn channel_event(body: &[u8], at: usize, status: u8, sort: u8) -> FrameStep
+    requires { ⌜ sort ≡ sortOf status ⌝ }
+    ensures { λ r. ⌜ r ≡ frameStep (length (now (body .entry))) (check (isChannel status) 8 0 (channelData status (drop at (now (body .entry))))) ⌝ }
 {
-    match status {
-        0..=0xBF => two_bytes(body, at, status),
-        0xC0..=0xDF => one_byte(body, at, status),
-        0xE0..=0xFF => two_bytes(body, at, status),
+    match sort {
+        ONE_FOLLOWS => one_byte(body, at, status),
+        TWO_FOLLOW => two_bytes(body, at, status),
+        _ => FrameStep::Refused { number: 8 },
     }
 }

@@ -4,6 +4,7 @@ ghost use lib.ListN.{length, drop};
 ghost use Rattle.event.specs.Reader.{readFrame, readEvent};
 ghost use Rattle.event.specs.Step.{frameStep, padded, eventStep, endOf, placeOf};
 ghost use Rattle.event.specs.Padding.{framePadding, eventPadding};
+ghost use Rattle.event.specs.Sort.{Sorts};
 use super::DataPlace;
 use super::Delta;
 use super::EventKind;
@@ -16,31 +17,40 @@ use super::channel::channel_event;
 use super::meta::exclusive_event;
 use super::meta::meta_event;
 use super::number::read_number;
+use super::sort::DATA_BYTE;
+use super::sort::EXCLUSIVE;
+use super::sort::META;
+use super::sort::ONE_FOLLOWS;
+use super::sort::PACKET;
+use super::sort::TWO_FOLLOW;
+use super::sort::sort_of;
+use super::sort::sort_table;
 
 // An event after its delta, from its status on; status is the one in force.
-fn after_delta(body: &[u8], at: usize, status: u8) -> FrameStep
+fn after_delta(body: &[u8], at: usize, status: u8, sorts: &[u8; 256]) -> FrameStep
+    requires { ⌜ Sorts (now sorts) ⌝ }
     ensures { λ r. ⌜ r ≡ padded (framePadding (drop at (now (body .entry)))) (frameStep (length (now (body .entry))) (readFrame status (drop at (now (body .entry))))) ⌝ }
 {
     if body.len() <= at {
         return FrameStep::Refused { number: 6 };
     }
     let b = body[at];
-    match b {
-        0..=0x7F => match status {
-            0..=0x7F => FrameStep::Refused { number: 8 },
-            0x80..=0xEF => channel_event(body, at, status),
-            0xF0..=0xFF => FrameStep::Refused { number: 8 },
-        },
-        0x80..=0xEF => channel_event(body, at + 1, b),
-        0xF0 => exclusive_event(body, at + 1, b),
-        0xF7 => exclusive_event(body, at + 1, b),
-        0xFF => meta_event(body, at + 1),
-        0xF1..=0xF6 | 0xF8..=0xFE => FrameStep::Refused { number: 8 },
+    let next = at + 1;
+    let sort = sort_of(b, sorts);
+    match sort {
+        DATA_BYTE => channel_event(body, at, status, sort_of(status, sorts)),
+        ONE_FOLLOWS | TWO_FOLLOW => channel_event(body, next, b, sort),
+        EXCLUSIVE => exclusive_event(body, next, b),
+        PACKET => exclusive_event(body, next, b),
+        META => meta_event(body, next),
+        _ => FrameStep::Refused { number: 8 },
     }
 }
 
-// The event at a place of a track's body, after the Time so far, with the status in force (0: none).
-pub fn read_event(body: &[u8], at: usize, time: Time, status: u8) -> EventStep
+// The event at a place of a track's body, after the Time so far, with the status in force (0: none), by a table that is
+// lent.
+pub fn read_event_by(body: &[u8], at: usize, time: Time, status: u8, sorts: &[u8; 256]) -> EventStep
+    requires { ⌜ Sorts (now sorts) ⌝ }
     ensures { λ r. ⌜ r ≡ eventStep (length (now (body .entry))) (eventPadding (drop at (now (body .entry)))) (readEvent (time .0) status (drop at (now (body .entry)))) ⌝ }
 {
     match read_number(body, at) {
@@ -51,7 +61,7 @@ pub fn read_event(body: &[u8], at: usize, time: Time, status: u8) -> EventStep
             padding: before,
         } => match time.later(Delta(value)) {
             Later::Over => EventStep::Stop { number: 7 },
-            Later::At(t) => match after_delta(body, p, status) {
+            Later::At(t) => match after_delta(body, p, status, sorts) {
                 FrameStep::Refused { number } => EventStep::Stop { number },
                 FrameStep::Found {
                     kind,
@@ -71,6 +81,14 @@ pub fn read_event(body: &[u8], at: usize, time: Time, status: u8) -> EventStep
             },
         },
     }
+}
+
+// The same, by the table made for this one event.
+pub fn read_event(body: &[u8], at: usize, time: Time, status: u8) -> EventStep
+    ensures { λ r. ⌜ r ≡ eventStep (length (now (body .entry))) (eventPadding (drop at (now (body .entry)))) (readEvent (time .0) status (drop at (now (body .entry)))) ⌝ }
+{
+    let sorts = sort_table();
+    read_event_by(body, at, time, status, &sorts)
 }
 
 // Whether the event is End_track.

@@ -8,7 +8,7 @@ ghost use Rattle.smf_write.specs.Tidy.{eventsIn};
 ghost use Rattle.fold_piece.specs.FoldAnswer.{placeShown, timeShown, statusShown};
 ghost use Rattle.fold.specs.Code.Row.{TracksRead, trackOf, RowsFor, showing};
 use super::rows::clear;
-use super::rows::row_at;
+use super::rows::row_of;
 use super::rows::start_rows;
 use super::search::greatest_time;
 use super::search::least;
@@ -16,6 +16,7 @@ use super::search::least_after;
 use event::EventKind;
 use event::EventStep;
 use event::Time;
+use event::read::read_event_by;
 use smf_write::tidy::put_event;
 use smf_write::tidy::step;
 
@@ -40,6 +41,7 @@ pub fn merge(
     let mut last = Time(0);
     let mut force: u8 = 0;
     let mut i = least(times, statuses, count);
+    let sorts = event::sort::sort_table();
     loop {
         if count <= i {
             let t = greatest_time(times, count);
@@ -59,7 +61,7 @@ pub fn merge(
         let now = times[i];
         let status = statuses[i];
         let time = Time(now);
-        match event::read::read_event(file, at, Time(0), status) {
+        match read_event_by(file, at, Time(0), status, &sorts) {
             EventStep::Stop { number } => {
                 return next;
             }
@@ -71,7 +73,7 @@ pub fn merge(
                 padding,
             } => {
                 next = put_event(out, next, step(time, last), kind, force, file, true);
-                let row = row_at(file, n, time, s);
+                let row = row_of(n, time, s, read_event_by(file, n, time, s, &sorts));
                 let p = row.place;
                 let t = row.time;
                 let c = row.status;

@@ -34,11 +34,11 @@ pub fn rows_lent(places: &[usize], times: &[u32], statuses: &[u8]) -> usize
     fewer(places.len(), fewer(times.len(), statuses.len()))
 }
 
-// The row of a track whose next event stands at a place, after a Time, with a status in force.
-pub fn row_at(file: &[u8], at: usize, time: Time, status: u8) -> Row
-    ensures { λ r. ⌜ r ≡ rowOf at (time .0) status (eventStep (length (now (file .entry))) (eventPadding (drop at (now (file .entry)))) (readEvent (time .0) status (drop at (now (file .entry))))) ⌝ }
+// The row of a track whose next event stands at a place, after a Time, with a status in force, as it was read.
+pub fn row_of(at: usize, time: Time, status: u8, step: EventStep) -> Row
+    ensures { λ r. ⌜ r ≡ rowOf at (time .0) status step ⌝ }
 {
-    match event::read::read_event(file, at, time, status) {
+    match step {
         EventStep::Stop { number } => {
             let t = time.0;
             Row {
@@ -69,6 +69,18 @@ pub fn row_at(file: &[u8], at: usize, time: Time, status: u8) -> Row
             }
         }
     }
+}
+
+// The same, read from the file.
+fn row_at(file: &[u8], at: usize, time: Time, status: u8) -> Row
+    ensures { λ r. ⌜ r ≡ rowOf at (time .0) status (eventStep (length (now (file .entry))) (eventPadding (drop at (now (file .entry)))) (readEvent (time .0) status (drop at (now (file .entry))))) ⌝ }
+{
+    row_of(
+        at,
+        time,
+        status,
+        event::read::read_event(file, at, time, status),
+    )
 }
 
 // Rows for so many tracks from a place of the file on, which are known to read: each stands before its

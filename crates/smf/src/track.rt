@@ -67,8 +67,9 @@ fn walk_track(body: &[u8], base: usize) -> WalkStep
     let mut status: u8 = 0;
     let mut events: u32 = 0;
     let mut padding: u32 = 0;
+    let sorts = event::sort::sort_table();
     loop {
-        match event::read::read_event(body, at, prev, status) {
+        match event::read::read_event_by(body, at, prev, status, &sorts) {
             event::EventStep::Stop { number } => {
                 let place = base + at;
                 return WalkStep::Fault { number, place };

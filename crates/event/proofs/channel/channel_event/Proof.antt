@@ -1,39 +1,31 @@
-use Rattle.event.specs.Reader.{channelData}
-use Rattle.event.specs.Choice.{pick}
-use Rattle.event.proofs.KindLaws.{one-low, one-yes, one-high}
-use native.Mathlib.Omega.{arith}
+use mathlib.Core.Path.{ap, sym, _∙_}
+use Rattle.event.specs.Step.{frameStep}
+use Rattle.event.proofs.SortLaws.{channel-one, channel-two, channel-none}
 use borrow.Author.Needs.{needs}
 use Rattle.event.proofs.channel.channel_event.Statement.{statement}
 use Rattle.event.proofs.channel.channel_event.Tie as tie
 
-two-bytes-requires : tie.Need-two-bytes-requires
-two-bytes-requires c κs = search needs
-
 one-byte-requires : tie.Need-one-byte-requires
 one-byte-requires c κs = search needs
 
-two-bytes-requires-2 : tie.Need-two-bytes-requires-2
-two-bytes-requires-2 c κs = search needs
+two-bytes-requires : tie.Need-two-bytes-requires
+two-bytes-requires c κs = search needs
 
 returns : tie.Need-returns
-unfolding channelData pick
-returns c = simp (one-low (c .before .before .before .args .status) (omega arith)) (c .two-bytes .ensures)
+returns c =
+    let s = c .before .before .before in
+    c .one-byte .ensures ∙ ap (frameStep _) (sym (channel-one (s .args .status) _ (sym (s .pre) ∙ c .before .match .keys1)))
 
 returns-2 : tie.Need-returns-2
-unfolding channelData pick
-returns-2 c = simp (one-yes (c .before .before .before .before .args .status) (omega arith) (omega arith)) (c .one-byte .ensures)
+returns-2 c =
+    let s = c .before .before .before in
+    c .two-bytes .ensures ∙ ap (frameStep _) (sym (channel-two (s .args .status) _ (sym (s .pre) ∙ c .before .match .keys2)))
 
 returns-3 : tie.Need-returns-3
-unfolding channelData pick
-returns-3 c = simp (one-high (c .before .before .before .before .args .status) (omega arith)) (c .two-bytes2 .ensures)
+unfolding frameStep
+returns-3 c =
+    let s = c .before .before in
+    ap (frameStep _) (sym (channel-none (s .args .status) _ (λ e. c .match .rest .0 .1 (s .pre ∙ e)) (λ e. c .match .rest .1 (s .pre ∙ e))))
 
 pub channel-event-spec : {M : Type 1} → statement M
-channel-event-spec =
-    tie.close
-    (tie.spec
-    two-bytes-requires
-    one-byte-requires
-    two-bytes-requires-2
-    returns
-    returns-2
-    returns-3)
+channel-event-spec = tie.close (tie.spec one-byte-requires two-bytes-requires returns returns-2 returns-3)

@@ -10,16 +10,19 @@ use Rattle.fold.proofs.look.scan_track.Statement.{statement}
 use Rattle.fold.proofs.look.scan_track.Tie as tie
 
 abbrev Inv-loop : tie.InvT-loop
-Inv-loop body base at₀ time₀ status₀ at time status = (at ≤ length body) × Scanning body base at (time .0) status
+Inv-loop body base at₀ time₀ status₀ sorts at time status = (at ≤ length body) × Scanning body base at (time .0) status
 
 abbrev μ-loop : tie.MeasureT-loop
-μ-loop body base at₀ time₀ status₀ at time status = length body - at
+μ-loop body base at₀ time₀ status₀ sorts at time status = length body - at
+
+sort-table-requires : tie.Need-sort-table-requires Inv-loop μ-loop
+sort-table-requires c κs = search needs
 
 loop-holds : tie.Need-loop-holds Inv-loop μ-loop
-loop-holds c = (omega arith, scan-first _ _ (c .before .pre .1))
+loop-holds c = (omega arith, scan-first _ _ (c .before .before .pre .1))
 
-read-event-requires : tie.Need-read-event-requires Inv-loop μ-loop
-read-event-requires c κs = search needs
+read-event-by-requires : tie.Need-read-event-by-requires Inv-loop μ-loop
+read-event-by-requires c κs = search needs
 
 enum-known-number : tie.Need-enum-known-number Inv-loop μ-loop
 enum-known-number c = search needs
@@ -28,9 +31,9 @@ success-requires : tie.Need-success-requires Inv-loop μ-loop
 success-requires c κs = search needs
 
 returns : tie.Need-returns Inv-loop μ-loop
-returns c = let a = c .before .before .before .before .before .before .before .args in let l = c .before .before .before .before .before .loop in
-    let bytes = bytes-of (a .body .now) (λ k. omega (arith, c .before .before .before .before .before .before .shared-slice-known .given k)) in
-    absurd (turn-stop (a .body .now) (l .at) (l .time .0) (l .status) bytes (c .before .before .before .before .read-event .ensures) (c .before .before .number .given .1) (l .inv .1 .readable))
+returns c = let a = c .before .before .before .before .before .before .before .before .before .args in let l = c .before .before .before .before .before .before .loop in
+    let bytes = bytes-of (a .body .now) (λ k. omega (arith, c .before .before .before .before .before .before .before .before .shared-slice-known .given k)) in
+    absurd (turn-stop (a .body .now) (l .at) (l .time .0) (l .status) bytes (c .before .before .before .before .read-event-by .ensures) (c .before .before .number .given .1) (l .inv .1 .readable))
 
 enum-known-t : tie.Need-enum-known-t Inv-loop μ-loop
 enum-known-t c = search needs
@@ -45,9 +48,9 @@ refusal-requires : tie.Need-refusal-requires Inv-loop μ-loop
 refusal-requires c κs = search needs
 
 returns-2 : tie.Need-returns-2 Inv-loop μ-loop
-returns-2 c = let a = c .before .before .before .before .before .before .before .before .before .args in let l = c .before .before .before .before .before .before .before .loop in
-    let bytes = bytes-of (a .body .now) (λ k. omega (arith, c .before .before .before .before .before .before .before .before .shared-slice-known .given k)) in
-    c .refusal .ensures ∙ scan-found (l .inv .1) bytes (l .inv .0) (sym (c .before .before .before .before .before .before .read-event .ensures) ∙ c .before .before .before .before .t .given .1) (sym (c .before .before .is-prefix-or-port .ensures) ∙ c .before .if1 .taken)
+returns-2 c = let a = c .before .before .before .before .before .before .before .before .before .before .before .args in let l = c .before .before .before .before .before .before .before .before .loop in
+    let bytes = bytes-of (a .body .now) (λ k. omega (arith, c .before .before .before .before .before .before .before .before .before .before .shared-slice-known .given k)) in
+    c .refusal .ensures ∙ scan-found (l .inv .1) bytes (l .inv .0) (sym (c .before .before .before .before .before .before .read-event-by .ensures) ∙ c .before .before .before .before .t .given .1) (sym (c .before .before .is-prefix-or-port .ensures) ∙ c .before .if1 .taken)
 
 is-end-requires : tie.Need-is-end-requires Inv-loop μ-loop
 is-end-requires c κs = search needs
@@ -56,20 +59,20 @@ success-requires-2 : tie.Need-success-requires-2 Inv-loop μ-loop
 success-requires-2 c κs = search needs
 
 returns-3 : tie.Need-returns-3 Inv-loop μ-loop
-returns-3 c = let a = c .before .before .before .before .before .before .before .before .before .before .before .args in let l = c .before .before .before .before .before .before .before .before .before .loop in
-    let bytes = bytes-of (a .body .now) (λ k. omega (arith, c .before .before .before .before .before .before .before .before .before .before .shared-slice-known .given k)) in
-    c .success2 .ensures ∙ scan-ended (l .inv .1) bytes (l .inv .0) (sym (c .before .before .before .before .before .before .before .before .read-event .ensures) ∙ c .before .before .before .before .before .before .t .given .1) (sym (c .before .before .before .before .is-prefix-or-port .ensures) ∙ c .before .before .before .if1 .left) (sym (c .before .before .is-end .ensures) ∙ c .before .if2 .taken)
+returns-3 c = let a = c .before .before .before .before .before .before .before .before .before .before .before .before .before .args in let l = c .before .before .before .before .before .before .before .before .before .before .loop in
+    let bytes = bytes-of (a .body .now) (λ k. omega (arith, c .before .before .before .before .before .before .before .before .before .before .before .before .shared-slice-known .given k)) in
+    c .success2 .ensures ∙ scan-ended (l .inv .1) bytes (l .inv .0) (sym (c .before .before .before .before .before .before .before .before .read-event-by .ensures) ∙ c .before .before .before .before .before .before .t .given .1) (sym (c .before .before .before .before .is-prefix-or-port .ensures) ∙ c .before .before .before .if1 .left) (sym (c .before .before .is-end .ensures) ∙ c .before .if2 .taken)
 
 loop-less : tie.Need-loop-less Inv-loop μ-loop
-loop-less c = let a = c .before .before .before .before .before .before .before .before .before .before .args in let l = c .before .before .before .before .before .before .before .before .loop in
-    let bytes = bytes-of (a .body .now) (λ k. omega (arith, c .before .before .before .before .before .before .before .before .before .shared-slice-known .given k)) in
-    let n = scan-next (l .inv .1) bytes (l .inv .0) (sym (c .before .before .before .before .before .before .before .read-event .ensures) ∙ c .before .before .before .before .before .t .given .1) (sym (c .before .before .before .is-prefix-or-port .ensures) ∙ c .before .before .if1 .left) (sym (c .before .is-end .ensures) ∙ c .if2 .left) in
+loop-less c = let a = c .before .before .before .before .before .before .before .before .before .before .before .before .args in let l = c .before .before .before .before .before .before .before .before .before .loop in
+    let bytes = bytes-of (a .body .now) (λ k. omega (arith, c .before .before .before .before .before .before .before .before .before .before .before .shared-slice-known .given k)) in
+    let n = scan-next (l .inv .1) bytes (l .inv .0) (sym (c .before .before .before .before .before .before .before .read-event-by .ensures) ∙ c .before .before .before .before .before .t .given .1) (sym (c .before .before .before .is-prefix-or-port .ensures) ∙ c .before .before .if1 .left) (sym (c .before .is-end .ensures) ∙ c .if2 .left) in
     omega (arith, n .0, n .1)
 
 loop-again : tie.Need-loop-again Inv-loop μ-loop
-loop-again c = let a = c .before .before .before .before .before .before .before .before .before .before .args in let l = c .before .before .before .before .before .before .before .before .loop in
-    let bytes = bytes-of (a .body .now) (λ k. omega (arith, c .before .before .before .before .before .before .before .before .before .shared-slice-known .given k)) in
-    let n = scan-next (l .inv .1) bytes (l .inv .0) (sym (c .before .before .before .before .before .before .before .read-event .ensures) ∙ c .before .before .before .before .before .t .given .1) (sym (c .before .before .before .is-prefix-or-port .ensures) ∙ c .before .before .if1 .left) (sym (c .before .is-end .ensures) ∙ c .if2 .left) in
+loop-again c = let a = c .before .before .before .before .before .before .before .before .before .before .before .before .args in let l = c .before .before .before .before .before .before .before .before .before .loop in
+    let bytes = bytes-of (a .body .now) (λ k. omega (arith, c .before .before .before .before .before .before .before .before .before .before .before .shared-slice-known .given k)) in
+    let n = scan-next (l .inv .1) bytes (l .inv .0) (sym (c .before .before .before .before .before .before .before .read-event-by .ensures) ∙ c .before .before .before .before .before .t .given .1) (sym (c .before .before .before .is-prefix-or-port .ensures) ∙ c .before .before .if1 .left) (sym (c .before .is-end .ensures) ∙ c .if2 .left) in
     (n .1, n .2)
 
 pub scan-track-spec : {M : Type 1} → statement M
@@ -78,8 +81,9 @@ scan-track-spec =
     (tie.spec
     Inv-loop
     μ-loop
+    sort-table-requires
     loop-holds
-    read-event-requires
+    read-event-by-requires
     enum-known-number
     success-requires
     returns

@@ -10,6 +10,7 @@ use Rattle.event_write.specs.Written.{Written}
 use Rattle.event.proofs.BytesLaws.{bytes-of}
 use Rattle.smf.specs.Code.Chain.{placedFrom}
 use Rattle.fold_piece.specs.FoldAnswer.{endsShown, placeShown, timeShown, statusShown}
+use Rattle.fold.specs.Code.Row.{rowOf}
 use Rattle.fold.proofs.RowLaws.{Least, least-found, least-again}
 use Rattle.fold.proofs.MergeLaws.{Going, Whole, whole-small, going-first, not-stopped, taken-here, going-more, going-on}
 use Rattle.fold.proofs.EndLaws.{written-all, places-shown, times-shown, statuses-shown}
@@ -20,13 +21,13 @@ use Rattle.fold.proofs.merge.merge.Statement.{statement}
 use Rattle.fold.proofs.merge.merge.Tie as tie
 
 abbrev Inv-loop : tie.InvT-loop
-Inv-loop out₀ places₀ times₀ statuses₀ from file count first next₀ last₀ force₀ i₀ out places times statuses next last force i =
+Inv-loop out₀ places₀ times₀ statuses₀ from file count first next₀ last₀ force₀ i₀ sorts out places times statuses next last force i =
     (length out ≡ length out₀) × (length places ≡ length places₀) × (length times ≡ length times₀) × (length statuses ≡ length statuses₀)
     × Going file count (placedFrom file count first) out₀ from (Whole file count first) out next (last .0) force places times statuses places₀ times₀ statuses₀
     × Least count times statuses count i
 
 abbrev μ-loop : tie.MeasureT-loop
-μ-loop out₀ places₀ times₀ statuses₀ from file count first next₀ last₀ force₀ i₀ out places times statuses next last force i =
+μ-loop out₀ places₀ times₀ statuses₀ from file count first next₀ last₀ force₀ i₀ sorts out places times statuses next last force i =
     from + length (Whole file count first) - next
 
 start-rows-requires : tie.Need-start-rows-requires Inv-loop μ-loop
@@ -37,21 +38,25 @@ least-requires : tie.Need-least-requires Inv-loop μ-loop
 unfolding mannerOf
 least-requires c κs = let p = c .before .before .before .before .before .before .before .before .before .before .before .before .before .before .before .before .before .pre .1 .1 .1 in let k = c .before .before .before .before .before .before .before .before .start-rows .kept in (omega (arith, k .1 .0, p .1), omega (arith, k .1 .1 .0, p .2))
 
+sort-table-requires : tie.Need-sort-table-requires Inv-loop μ-loop
+unfolding mannerOf
+sort-table-requires c κs = search needs
+
 loop-holds : tie.Need-loop-holds Inv-loop μ-loop
 unfolding mannerOf
-loop-holds c = let a = c .before .before .before .before .before .before .before .before .before .before .before .before .before .before .before .before .before .before .args in let e = c .before .before .before .before .before .before .before .before .before .start-rows .ensures in let p = c .before .before .before .before .before .before .before .before .before .before .before .before .before .before .before .before .before .before .pre in
-    let bytes = bytes-of (a .file .now) (λ k. omega (arith, c .before .before .before .before .before .before .before .before .before .before .before .before .before .shared-slice-known .given k)) in (
+loop-holds c = let a = c .before .before .before .before .before .before .before .before .before .before .before .before .before .before .before .before .before .before .before .args in let e = c .before .before .before .before .before .before .before .before .before .before .start-rows .ensures in let p = c .before .before .before .before .before .before .before .before .before .before .before .before .before .before .before .before .before .before .before .pre in
+    let bytes = bytes-of (a .file .now) (λ k. omega (arith, c .before .before .before .before .before .before .before .before .before .before .before .before .before .before .shared-slice-known .given k)) in (
       refl,
       refl,
       refl,
       refl,
       going-first (a .file .now) (a .count) (a .first) (a .out .now) (a .from) _ _ _ _ _ _ bytes (p .1 .1 .0) (record { standing = e .standing; places = refl; times = refl; statuses = refl }),
-      least-found (a .count) _ _ _ (c .least .ensures),
+      least-found (a .count) _ _ _ (c .before .least .ensures),
     )
 
 greatest-time-requires : tie.Need-greatest-time-requires Inv-loop μ-loop
 unfolding mannerOf
-greatest-time-requires c κs = let p = c .before .before .before .before .before .before .before .before .before .before .before .before .before .before .before .before .before .before .before .before .before .pre .1 .1 .1 in let l = c .before .before .loop in let k = c .before .before .before .before .before .before .before .before .before .before .before .before .start-rows .kept in omega (arith, l .inv .2, k .1 .0, p .1)
+greatest-time-requires c κs = let p = c .before .before .before .before .before .before .before .before .before .before .before .before .before .before .before .before .before .before .before .before .before .before .pre .1 .1 .1 in let l = c .before .before .loop in let k = c .before .before .before .before .before .before .before .before .before .before .before .before .before .start-rows .kept in omega (arith, l .inv .2, k .1 .0, p .1)
 
 step-requires : tie.Need-step-requires Inv-loop μ-loop
 unfolding mannerOf
@@ -59,13 +64,13 @@ step-requires c κs = search needs
 
 put-event-requires : tie.Need-put-event-requires Inv-loop μ-loop
 unfolding mannerOf
-put-event-requires c κs = let a = c .before .before .before .before .before .before .before .before .before .before .before .before .before .before .before .before .before .before .before .before .before .before .before .before .args in let p = c .before .before .before .before .before .before .before .before .before .before .before .before .before .before .before .before .before .before .before .before .before .before .before .before .pre in let g = c .before .before .before .before .before .loop .inv .4 in
-    let bytes = bytes-of (a .file .now) (λ k. omega (arith, c .before .before .before .before .before .before .before .before .before .before .before .before .before .before .before .before .before .before .before .shared-slice-known .given k)) in
+put-event-requires c κs = let a = c .before .before .before .before .before .before .before .before .before .before .before .before .before .before .before .before .before .before .before .before .before .before .before .before .before .args in let p = c .before .before .before .before .before .before .before .before .before .before .before .before .before .before .before .before .before .before .before .before .before .before .before .before .before .pre in let g = c .before .before .before .before .before .loop .inv .4 in
+    let bytes = bytes-of (a .file .now) (λ k. omega (arith, c .before .before .before .before .before .before .before .before .before .before .before .before .before .before .before .before .before .before .before .before .shared-slice-known .given k)) in
     (omega (arith, g .remains .place, whole-small (a .file .now) (a .count) (a .first) bytes (p .1 .1 .0), length-drop (a .first) (a .file .now), p .0, p .1 .0), omega (arith, p .1 .0))
 
 clear-requires : tie.Need-clear-requires Inv-loop μ-loop
 unfolding mannerOf
-clear-requires c κs = let p = c .before .before .before .before .before .before .before .before .before .before .before .before .before .before .before .before .before .before .before .before .before .before .before .before .before .before .before .before .pre .1 .1 .1 in let l = c .before .before .before .before .before .before .before .before .before .loop in let k = c .before .before .before .before .before .before .before .before .before .before .before .before .before .before .before .before .before .before .before .start-rows .kept in omega (arith, l .inv .3, k .1 .1 .0, p .2)
+clear-requires c κs = let p = c .before .before .before .before .before .before .before .before .before .before .before .before .before .before .before .before .before .before .before .before .before .before .before .before .before .before .before .before .before .pre .1 .1 .1 in let l = c .before .before .before .before .before .before .before .before .before .loop in let k = c .before .before .before .before .before .before .before .before .before .before .before .before .before .before .before .before .before .before .before .before .start-rows .kept in omega (arith, l .inv .3, k .1 .1 .0, p .2)
 
 same-length : tie.Need-same-length Inv-loop μ-loop
 unfolding mannerOf
@@ -73,20 +78,20 @@ same-length c = c .before .before .before .before .before .before .put-event .ke
 
 same-length-2 : tie.Need-same-length-2 Inv-loop μ-loop
 unfolding mannerOf
-same-length-2 c = c .before .before .before .before .before .before .before .before .before .before .before .before .loop .inv .1 ∙ c .before .before .before .before .before .before .before .before .before .before .before .before .before .before .before .before .before .before .before .before .before .before .start-rows .kept .0
+same-length-2 c = c .before .before .before .before .before .before .before .before .before .before .before .before .loop .inv .1 ∙ c .before .before .before .before .before .before .before .before .before .before .before .before .before .before .before .before .before .before .before .before .before .before .before .start-rows .kept .0
 
 same-length-3 : tie.Need-same-length-3 Inv-loop μ-loop
 unfolding mannerOf
-same-length-3 c = c .before .before .before .before .before .before .before .before .before .before .before .before .loop .inv .2 ∙ c .before .before .before .before .before .before .before .before .before .before .before .before .before .before .before .before .before .before .before .before .before .before .start-rows .kept .1 .0
+same-length-3 c = c .before .before .before .before .before .before .before .before .before .before .before .before .loop .inv .2 ∙ c .before .before .before .before .before .before .before .before .before .before .before .before .before .before .before .before .before .before .before .before .before .before .before .start-rows .kept .1 .0
 
 same-length-4 : tie.Need-same-length-4 Inv-loop μ-loop
 unfolding mannerOf
-same-length-4 c = c .before .before .clear .kept .0 ∙ c .before .before .before .before .before .before .before .before .before .before .before .before .loop .inv .3 ∙ c .before .before .before .before .before .before .before .before .before .before .before .before .before .before .before .before .before .before .before .before .before .before .start-rows .kept .1 .1 .0
+same-length-4 c = c .before .before .clear .kept .0 ∙ c .before .before .before .before .before .before .before .before .before .before .before .before .loop .inv .3 ∙ c .before .before .before .before .before .before .before .before .before .before .before .before .before .before .before .before .before .before .before .before .before .before .before .start-rows .kept .1 .1 .0
 
 returns : tie.Need-returns Inv-loop μ-loop
 unfolding mannerOf
-returns c = let a = c .before .before .before .before .before .before .before .before .before .before .before .before .before .before .before .before .before .before .before .before .before .before .before .before .before .before .before .before .before .before .before .args in let l = c .before .before .before .before .before .before .before .before .before .before .before .before .loop in let f = a .file .now in let g = l .inv .4 in
-    let k = c .before .before .before .before .before .before .before .before .before .before .before .before .before .before .before .before .before .before .before .before .before .before .start-rows .kept in let p = c .before .before .before .before .before .before .before .before .before .before .before .before .before .before .before .before .before .before .before .before .before .before .before .before .before .before .before .before .before .before .before .pre .1 .1 .1 in let e = c .before .before .before .before .before .before .before .before .before .before .before .before .before .before .before .before .before .before .before .before .before .before .start-rows .ensures in
+returns c = let a = c .before .before .before .before .before .before .before .before .before .before .before .before .before .before .before .before .before .before .before .before .before .before .before .before .before .before .before .before .before .before .before .before .args in let l = c .before .before .before .before .before .before .before .before .before .before .before .before .loop in let f = a .file .now in let g = l .inv .4 in
+    let k = c .before .before .before .before .before .before .before .before .before .before .before .before .before .before .before .before .before .before .before .before .before .before .before .start-rows .kept in let p = c .before .before .before .before .before .before .before .before .before .before .before .before .before .before .before .before .before .before .before .before .before .before .before .before .before .before .before .before .before .before .before .before .pre .1 .1 .1 in let e = c .before .before .before .before .before .before .before .before .before .before .before .before .before .before .before .before .before .before .before .before .before .before .before .start-rows .ensures in
     let none = c .before .before .before .before .before .before .before .before .before .before .before .if1 .taken in
     let best = l .inv .5 in
     let ht : a .count ≤ length (l .times) = omega (arith, l .inv .2, k .1 .0, p .1) in
@@ -110,7 +115,7 @@ mul-at c = search needs
 
 slice-read-at : tie.Need-slice-read-at Inv-loop μ-loop
 unfolding mannerOf
-slice-read-at c = let p = c .before .before .before .before .before .before .before .before .before .before .before .before .before .before .before .before .before .before .before .before .before .pre .1 .1 .1 in let l = c .before .before .loop in let k = c .before .before .before .before .before .before .before .before .before .before .before .before .start-rows .kept in omega (arith, l .inv .1, k .0, p .0, c .before .if1 .left)
+slice-read-at c = let p = c .before .before .before .before .before .before .before .before .before .before .before .before .before .before .before .before .before .before .before .before .before .before .pre .1 .1 .1 in let l = c .before .before .loop in let k = c .before .before .before .before .before .before .before .before .before .before .before .before .before .start-rows .kept in omega (arith, l .inv .1, k .0, p .0, c .before .if1 .left)
 
 mul-now : tie.Need-mul-now Inv-loop μ-loop
 unfolding mannerOf
@@ -118,15 +123,15 @@ mul-now c = search needs
 
 slice-read-now : tie.Need-slice-read-now Inv-loop μ-loop
 unfolding mannerOf
-slice-read-now c = let p = c .before .before .before .before .before .before .before .before .before .before .before .before .before .before .before .before .before .before .before .before .before .before .pre .1 .1 .1 in let l = c .before .before .before .loop in let k = c .before .before .before .before .before .before .before .before .before .before .before .before .before .start-rows .kept in omega (arith, l .inv .2, k .1 .0, p .1, c .before .before .if1 .left)
+slice-read-now c = let p = c .before .before .before .before .before .before .before .before .before .before .before .before .before .before .before .before .before .before .before .before .before .before .before .pre .1 .1 .1 in let l = c .before .before .before .loop in let k = c .before .before .before .before .before .before .before .before .before .before .before .before .before .before .start-rows .kept in omega (arith, l .inv .2, k .1 .0, p .1, c .before .before .if1 .left)
 
 slice-read-status : tie.Need-slice-read-status Inv-loop μ-loop
 unfolding mannerOf
-slice-read-status c = let p = c .before .before .before .before .before .before .before .before .before .before .before .before .before .before .before .before .before .before .before .before .before .before .before .pre .1 .1 .1 in let l = c .before .before .before .before .loop in let k = c .before .before .before .before .before .before .before .before .before .before .before .before .before .before .start-rows .kept in omega (arith, l .inv .3, k .1 .1 .0, p .2, c .before .before .before .if1 .left)
+slice-read-status c = let p = c .before .before .before .before .before .before .before .before .before .before .before .before .before .before .before .before .before .before .before .before .before .before .before .before .pre .1 .1 .1 in let l = c .before .before .before .before .loop in let k = c .before .before .before .before .before .before .before .before .before .before .before .before .before .before .before .start-rows .kept in omega (arith, l .inv .3, k .1 .1 .0, p .2, c .before .before .before .if1 .left)
 
-read-event-requires : tie.Need-read-event-requires Inv-loop μ-loop
+read-event-by-requires : tie.Need-read-event-by-requires Inv-loop μ-loop
 unfolding mannerOf
-read-event-requires c κs = search needs
+read-event-by-requires c κs = search needs
 
 enum-known-number : tie.Need-enum-known-number Inv-loop μ-loop
 unfolding mannerOf
@@ -134,25 +139,25 @@ enum-known-number c = search needs
 
 same-length-5 : tie.Need-same-length-5 Inv-loop μ-loop
 unfolding mannerOf
-same-length-5 c = c .before .before .before .before .before .before .before .before .loop .inv .0
+same-length-5 c = c .before .before .before .before .before .before .before .before .before .loop .inv .0
 
 same-length-6 : tie.Need-same-length-6 Inv-loop μ-loop
 unfolding mannerOf
-same-length-6 c = c .before .before .before .before .before .before .before .before .loop .inv .1 ∙ c .before .before .before .before .before .before .before .before .before .before .before .before .before .before .before .before .before .before .start-rows .kept .0
+same-length-6 c = c .before .before .before .before .before .before .before .before .before .loop .inv .1 ∙ c .before .before .before .before .before .before .before .before .before .before .before .before .before .before .before .before .before .before .before .before .start-rows .kept .0
 
 same-length-7 : tie.Need-same-length-7 Inv-loop μ-loop
 unfolding mannerOf
-same-length-7 c = c .before .before .before .before .before .before .before .before .loop .inv .2 ∙ c .before .before .before .before .before .before .before .before .before .before .before .before .before .before .before .before .before .before .start-rows .kept .1 .0
+same-length-7 c = c .before .before .before .before .before .before .before .before .before .loop .inv .2 ∙ c .before .before .before .before .before .before .before .before .before .before .before .before .before .before .before .before .before .before .before .before .start-rows .kept .1 .0
 
 same-length-8 : tie.Need-same-length-8 Inv-loop μ-loop
 unfolding mannerOf
-same-length-8 c = c .before .before .before .before .before .before .before .before .loop .inv .3 ∙ c .before .before .before .before .before .before .before .before .before .before .before .before .before .before .before .before .before .before .start-rows .kept .1 .1 .0
+same-length-8 c = c .before .before .before .before .before .before .before .before .before .loop .inv .3 ∙ c .before .before .before .before .before .before .before .before .before .before .before .before .before .before .before .before .before .before .before .before .start-rows .kept .1 .1 .0
 
 returns-2 : tie.Need-returns-2 Inv-loop μ-loop
 unfolding mannerOf
-returns-2 c = let l = c .before .before .before .before .before .before .before .before .loop in
-    let bytes = bytes-of (c .before .before .before .before .before .before .before .before .before .before .before .before .before .before .before .before .before .before .before .before .before .before .before .before .before .before .before .args .file .now) (λ k. omega (arith, c .before .before .before .before .before .before .before .before .before .before .before .before .before .before .before .before .before .before .before .before .before .before .shared-slice-known .given k)) in
-    absurd (not-stopped bytes (l .inv .4) (l .i) (c .before .before .before .before .before .before .before .if1 .left) (l .inv .5) (c .before .before .before .read-event .ensures) (c .before .number .given .1))
+returns-2 c = let l = c .before .before .before .before .before .before .before .before .before .loop in
+    let bytes = bytes-of (c .before .before .before .before .before .before .before .before .before .before .before .before .before .before .before .before .before .before .before .before .before .before .before .before .before .before .before .before .before .args .file .now) (λ k. omega (arith, c .before .before .before .before .before .before .before .before .before .before .before .before .before .before .before .before .before .before .before .before .before .before .before .before .shared-slice-known .given k)) in
+    absurd (not-stopped bytes (l .inv .4) (l .i) (c .before .before .before .before .before .before .before .before .if1 .left) (l .inv .5) (c .before .before .before .read-event-by .ensures) (c .before .number .given .1))
 
 enum-known-d : tie.Need-enum-known-d Inv-loop μ-loop
 unfolding mannerOf
@@ -164,61 +169,65 @@ step-requires-2 c κs = search needs
 
 put-event-requires-2 : tie.Need-put-event-requires-2 Inv-loop μ-loop
 unfolding mannerOf
-put-event-requires-2 c κs = let a = c .before .before .before .before .before .before .before .before .before .before .before .before .before .before .before .before .before .before .before .before .before .before .before .before .before .before .before .before .before .args in let p = c .before .before .before .before .before .before .before .before .before .before .before .before .before .before .before .before .before .before .before .before .before .before .before .before .before .before .before .before .before .pre in let g = c .before .before .before .before .before .before .before .before .before .before .loop .inv .4 in
-    let bytes = bytes-of (a .file .now) (λ k. omega (arith, c .before .before .before .before .before .before .before .before .before .before .before .before .before .before .before .before .before .before .before .before .before .before .before .before .shared-slice-known .given k)) in
+put-event-requires-2 c κs = let a = c .before .before .before .before .before .before .before .before .before .before .before .before .before .before .before .before .before .before .before .before .before .before .before .before .before .before .before .before .before .before .before .args in let p = c .before .before .before .before .before .before .before .before .before .before .before .before .before .before .before .before .before .before .before .before .before .before .before .before .before .before .before .before .before .before .before .pre in let g = c .before .before .before .before .before .before .before .before .before .before .before .loop .inv .4 in
+    let bytes = bytes-of (a .file .now) (λ k. omega (arith, c .before .before .before .before .before .before .before .before .before .before .before .before .before .before .before .before .before .before .before .before .before .before .before .before .before .before .shared-slice-known .given k)) in
     (omega (arith, g .remains .place, whole-small (a .file .now) (a .count) (a .first) bytes (p .1 .1 .0), length-drop (a .first) (a .file .now), p .0, p .1 .0), omega (arith, p .1 .0))
 
-row-at-requires : tie.Need-row-at-requires Inv-loop μ-loop
+read-event-by-requires-2 : tie.Need-read-event-by-requires-2 Inv-loop μ-loop
 unfolding mannerOf
-row-at-requires c κs = search needs
+read-event-by-requires-2 c κs = search needs
+
+row-of-requires : tie.Need-row-of-requires Inv-loop μ-loop
+unfolding mannerOf
+row-of-requires c κs = search needs
 
 mul-places : tie.Need-mul-places Inv-loop μ-loop
 unfolding mannerOf
-mul-places c = let p = c .before .before .before .before .before .before .before .before .before .before .before .before .before .before .before .before .before .before .before .before .before .before .before .before .before .before .before .before .before .before .before .before .before .pre .1 .1 .1 in omega (arith, p .0, c .before .before .before .before .before .before .before .before .before .before .before .before .before .if1 .left, c .before .before .before .before .before .before .before .before .before .before .before .before .before .before .before .before .before .before .before .before .before .before .before .before .before .before .before .before .before .before .before .before .before .good .1 .0 .1)
+mul-places c = let p = c .before .before .before .before .before .before .before .before .before .before .before .before .before .before .before .before .before .before .before .before .before .before .before .before .before .before .before .before .before .before .before .before .before .before .before .before .before .pre .1 .1 .1 in omega (arith, p .0, c .before .before .before .before .before .before .before .before .before .before .before .before .before .before .before .before .if1 .left, c .before .before .before .before .before .before .before .before .before .before .before .before .before .before .before .before .before .before .before .before .before .before .before .before .before .before .before .before .before .before .before .before .before .before .before .before .before .good .1 .0 .1)
 
 slice-write-places : tie.Need-slice-write-places Inv-loop μ-loop
 unfolding mannerOf
-slice-write-places c = let p = c .before .before .before .before .before .before .before .before .before .before .before .before .before .before .before .before .before .before .before .before .before .before .before .before .before .before .before .before .before .before .before .before .before .pre .1 .1 .1 in let l = c .before .before .before .before .before .before .before .before .before .before .before .before .before .before .loop in let k = c .before .before .before .before .before .before .before .before .before .before .before .before .before .before .before .before .before .before .before .before .before .before .before .before .start-rows .kept in omega (arith, l .inv .1, k .0, p .0, c .before .before .before .before .before .before .before .before .before .before .before .before .before .if1 .left)
+slice-write-places c = let p = c .before .before .before .before .before .before .before .before .before .before .before .before .before .before .before .before .before .before .before .before .before .before .before .before .before .before .before .before .before .before .before .before .before .before .before .before .before .pre .1 .1 .1 in let l = c .before .before .before .before .before .before .before .before .before .before .before .before .before .before .before .before .before .loop in let k = c .before .before .before .before .before .before .before .before .before .before .before .before .before .before .before .before .before .before .before .before .before .before .before .before .before .before .before .before .start-rows .kept in omega (arith, l .inv .1, k .0, p .0, c .before .before .before .before .before .before .before .before .before .before .before .before .before .before .before .before .if1 .left)
 
 mul-times : tie.Need-mul-times Inv-loop μ-loop
 unfolding mannerOf
-mul-times c = let p = c .before .before .before .before .before .before .before .before .before .before .before .before .before .before .before .before .before .before .before .before .before .before .before .before .before .before .before .before .before .before .before .before .before .pre .1 .1 .1 in omega (arith, p .1, c .before .before .before .before .before .before .before .before .before .before .before .before .before .if1 .left, c .before .before .before .before .before .before .before .before .before .before .before .before .before .before .before .before .before .before .before .before .before .before .before .before .before .before .before .before .before .before .before .before .before .good .1 .1 .0 .1)
+mul-times c = let p = c .before .before .before .before .before .before .before .before .before .before .before .before .before .before .before .before .before .before .before .before .before .before .before .before .before .before .before .before .before .before .before .before .before .before .before .before .before .pre .1 .1 .1 in omega (arith, p .1, c .before .before .before .before .before .before .before .before .before .before .before .before .before .before .before .before .if1 .left, c .before .before .before .before .before .before .before .before .before .before .before .before .before .before .before .before .before .before .before .before .before .before .before .before .before .before .before .before .before .before .before .before .before .before .before .before .before .good .1 .1 .0 .1)
 
 slice-write-times : tie.Need-slice-write-times Inv-loop μ-loop
 unfolding mannerOf
-slice-write-times c = let p = c .before .before .before .before .before .before .before .before .before .before .before .before .before .before .before .before .before .before .before .before .before .before .before .before .before .before .before .before .before .before .before .before .before .pre .1 .1 .1 in let l = c .before .before .before .before .before .before .before .before .before .before .before .before .before .before .loop in let k = c .before .before .before .before .before .before .before .before .before .before .before .before .before .before .before .before .before .before .before .before .before .before .before .before .start-rows .kept in omega (arith, l .inv .2, k .1 .0, p .1, c .before .before .before .before .before .before .before .before .before .before .before .before .before .if1 .left)
+slice-write-times c = let p = c .before .before .before .before .before .before .before .before .before .before .before .before .before .before .before .before .before .before .before .before .before .before .before .before .before .before .before .before .before .before .before .before .before .before .before .before .before .pre .1 .1 .1 in let l = c .before .before .before .before .before .before .before .before .before .before .before .before .before .before .before .before .before .loop in let k = c .before .before .before .before .before .before .before .before .before .before .before .before .before .before .before .before .before .before .before .before .before .before .before .before .before .before .before .before .start-rows .kept in omega (arith, l .inv .2, k .1 .0, p .1, c .before .before .before .before .before .before .before .before .before .before .before .before .before .before .before .before .if1 .left)
 
 slice-write-statuses : tie.Need-slice-write-statuses Inv-loop μ-loop
 unfolding mannerOf
-slice-write-statuses c = let p = c .before .before .before .before .before .before .before .before .before .before .before .before .before .before .before .before .before .before .before .before .before .before .before .before .before .before .before .before .before .before .before .before .before .pre .1 .1 .1 in let l = c .before .before .before .before .before .before .before .before .before .before .before .before .before .before .loop in let k = c .before .before .before .before .before .before .before .before .before .before .before .before .before .before .before .before .before .before .before .before .before .before .before .before .start-rows .kept in omega (arith, l .inv .3, k .1 .1 .0, p .2, c .before .before .before .before .before .before .before .before .before .before .before .before .before .if1 .left)
+slice-write-statuses c = let p = c .before .before .before .before .before .before .before .before .before .before .before .before .before .before .before .before .before .before .before .before .before .before .before .before .before .before .before .before .before .before .before .before .before .before .before .before .before .pre .1 .1 .1 in let l = c .before .before .before .before .before .before .before .before .before .before .before .before .before .before .before .before .before .loop in let k = c .before .before .before .before .before .before .before .before .before .before .before .before .before .before .before .before .before .before .before .before .before .before .before .before .before .before .before .before .start-rows .kept in omega (arith, l .inv .3, k .1 .1 .0, p .2, c .before .before .before .before .before .before .before .before .before .before .before .before .before .before .before .before .if1 .left)
 
 least-after-requires : tie.Need-least-after-requires Inv-loop μ-loop
 unfolding mannerOf
-least-after-requires c κs = let p = c .before .before .before .before .before .before .before .before .before .before .before .before .before .before .before .before .before .before .before .before .before .before .before .before .before .before .before .before .before .before .before .before .before .before .before .pre .1 .1 .1 in let l = c .before .before .before .before .before .before .before .before .before .before .before .before .before .before .before .before .loop in let k = c .before .before .before .before .before .before .before .before .before .before .before .before .before .before .before .before .before .before .before .before .before .before .before .before .before .before .start-rows .kept in let r = c .before .before .row-at .result in
-    (omega (arith, length-set (l .times) (l .i) (r .time), l .inv .2, k .1 .0, p .1), (omega (arith, length-set (l .statuses) (l .i) (r .status), l .inv .3, k .1 .1 .0, p .2), c .before .before .before .before .before .before .before .before .before .before .before .before .before .before .before .if1 .left))
+least-after-requires c κs = let p = c .before .before .before .before .before .before .before .before .before .before .before .before .before .before .before .before .before .before .before .before .before .before .before .before .before .before .before .before .before .before .before .before .before .before .before .before .before .before .before .pre .1 .1 .1 in let l = c .before .before .before .before .before .before .before .before .before .before .before .before .before .before .before .before .before .before .before .loop in let k = c .before .before .before .before .before .before .before .before .before .before .before .before .before .before .before .before .before .before .before .before .before .before .before .before .before .before .before .before .before .before .start-rows .kept in let r = c .before .before .row-of .result in
+    (omega (arith, length-set (l .times) (l .i) (r .time), l .inv .2, k .1 .0, p .1), (omega (arith, length-set (l .statuses) (l .i) (r .status), l .inv .3, k .1 .1 .0, p .2), c .before .before .before .before .before .before .before .before .before .before .before .before .before .before .before .before .before .before .if1 .left))
 
 loop-less : tie.Need-loop-less Inv-loop μ-loop
 unfolding mannerOf
-loop-less c = let l = c .before .before .before .before .before .before .before .before .before .before .before .before .before .before .before .before .before .loop in let h = c .before .before .before .before .before .before .before .before .before .before .before .before .before .before .before .before .if1 .left in let d = c .before .before .before .before .before .before .before .before .before .before .d .given in let put = c .before .before .before .before .before .before .put-event2 in
-    let bytes = bytes-of (c .before .before .before .before .before .before .before .before .before .before .before .before .before .before .before .before .before .before .before .before .before .before .before .before .before .before .before .before .before .before .before .before .before .before .before .before .args .file .now) (λ k. omega (arith, c .before .before .before .before .before .before .before .before .before .before .before .before .before .before .before .before .before .before .before .before .before .before .before .before .before .before .before .before .before .before .before .shared-slice-known .given k)) in
-    let w = taken-here bytes (l .inv .4) (l .i) h (l .inv .5) (c .before .before .before .before .before .before .before .before .before .before .before .before .read-event .ensures) (d .1) in
-    omega (arith, going-more bytes (l .inv .4) (l .i) h (l .inv .5) (d .0 .1 .0) (d .0 .1 .1 .0) (d .0 .1 .1 .1 .0) w _ (put .last .0) (put .result) (ap (λ (x : Delta). x .0) (c .before .before .before .before .before .before .before .step2 .ensures)) (put .ensures))
+loop-less c = let l = c .before .before .before .before .before .before .before .before .before .before .before .before .before .before .before .before .before .before .before .before .loop in let h = c .before .before .before .before .before .before .before .before .before .before .before .before .before .before .before .before .before .before .before .if1 .left in let d = c .before .before .before .before .before .before .before .before .before .before .before .before .d .given in let put = c .before .before .before .before .before .before .before .before .put-event2 in
+    let bytes = bytes-of (c .before .before .before .before .before .before .before .before .before .before .before .before .before .before .before .before .before .before .before .before .before .before .before .before .before .before .before .before .before .before .before .before .before .before .before .before .before .before .before .before .args .file .now) (λ k. omega (arith, c .before .before .before .before .before .before .before .before .before .before .before .before .before .before .before .before .before .before .before .before .before .before .before .before .before .before .before .before .before .before .before .before .before .before .before .shared-slice-known .given k)) in
+    let w = taken-here bytes (l .inv .4) (l .i) h (l .inv .5) (c .before .before .before .before .before .before .before .before .before .before .before .before .before .before .read-event-by .ensures) (d .1) in
+    omega (arith, going-more bytes (l .inv .4) (l .i) h (l .inv .5) (d .0 .1 .0) (d .0 .1 .1 .0) (d .0 .1 .1 .1 .0) w _ (put .last .0) (put .result) (ap (λ (x : Delta). x .0) (c .before .before .before .before .before .before .before .before .before .step2 .ensures)) (put .ensures))
 
 loop-again : tie.Need-loop-again Inv-loop μ-loop
 unfolding mannerOf
-loop-again c = let l = c .before .before .before .before .before .before .before .before .before .before .before .before .before .before .before .before .before .loop in let h = c .before .before .before .before .before .before .before .before .before .before .before .before .before .before .before .before .if1 .left in let d = c .before .before .before .before .before .before .before .before .before .before .d .given in let put = c .before .before .before .before .before .before .put-event2 in let r = c .before .before .before .row-at .result in
-    let k = c .before .before .before .before .before .before .before .before .before .before .before .before .before .before .before .before .before .before .before .before .before .before .before .before .before .before .before .start-rows .kept in let p = c .before .before .before .before .before .before .before .before .before .before .before .before .before .before .before .before .before .before .before .before .before .before .before .before .before .before .before .before .before .before .before .before .before .before .before .before .pre .1 .1 .1 in
-    let bytes = bytes-of (c .before .before .before .before .before .before .before .before .before .before .before .before .before .before .before .before .before .before .before .before .before .before .before .before .before .before .before .before .before .before .before .before .before .before .before .before .args .file .now) (λ k. omega (arith, c .before .before .before .before .before .before .before .before .before .before .before .before .before .before .before .before .before .before .before .before .before .before .before .before .before .before .before .before .before .before .before .shared-slice-known .given k)) in
-    let w = taken-here bytes (l .inv .4) (l .i) h (l .inv .5) (c .before .before .before .before .before .before .before .before .before .before .before .before .read-event .ensures) (d .1) in
-    let hp : c .before .before .before .before .before .before .before .before .before .before .before .before .before .before .before .before .before .before .before .before .before .before .before .before .before .before .before .before .before .before .before .before .before .before .before .before .args .count ≤ length (l .places) = omega (arith, l .inv .1, k .0, p .0) in
-    let ht : c .before .before .before .before .before .before .before .before .before .before .before .before .before .before .before .before .before .before .before .before .before .before .before .before .before .before .before .before .before .before .before .before .before .before .before .before .args .count ≤ length (l .times) = omega (arith, l .inv .2, k .1 .0, p .1) in
-    let hs : c .before .before .before .before .before .before .before .before .before .before .before .before .before .before .before .before .before .before .before .before .before .before .before .before .before .before .before .before .before .before .before .before .before .before .before .before .args .count ≤ length (l .statuses) = omega (arith, l .inv .3, k .1 .1 .0, p .2) in (
+loop-again c = let l = c .before .before .before .before .before .before .before .before .before .before .before .before .before .before .before .before .before .before .before .before .loop in let h = c .before .before .before .before .before .before .before .before .before .before .before .before .before .before .before .before .before .before .before .if1 .left in let d = c .before .before .before .before .before .before .before .before .before .before .before .before .d .given in let put = c .before .before .before .before .before .before .before .before .put-event2 in let r = c .before .before .before .row-of .result in
+    let k = c .before .before .before .before .before .before .before .before .before .before .before .before .before .before .before .before .before .before .before .before .before .before .before .before .before .before .before .before .before .before .before .start-rows .kept in let p = c .before .before .before .before .before .before .before .before .before .before .before .before .before .before .before .before .before .before .before .before .before .before .before .before .before .before .before .before .before .before .before .before .before .before .before .before .before .before .before .before .pre .1 .1 .1 in
+    let bytes = bytes-of (c .before .before .before .before .before .before .before .before .before .before .before .before .before .before .before .before .before .before .before .before .before .before .before .before .before .before .before .before .before .before .before .before .before .before .before .before .before .before .before .before .args .file .now) (λ k. omega (arith, c .before .before .before .before .before .before .before .before .before .before .before .before .before .before .before .before .before .before .before .before .before .before .before .before .before .before .before .before .before .before .before .before .before .before .before .shared-slice-known .given k)) in
+    let w = taken-here bytes (l .inv .4) (l .i) h (l .inv .5) (c .before .before .before .before .before .before .before .before .before .before .before .before .before .before .read-event-by .ensures) (d .1) in
+    let hp : c .before .before .before .before .before .before .before .before .before .before .before .before .before .before .before .before .before .before .before .before .before .before .before .before .before .before .before .before .before .before .before .before .before .before .before .before .before .before .before .before .args .count ≤ length (l .places) = omega (arith, l .inv .1, k .0, p .0) in
+    let ht : c .before .before .before .before .before .before .before .before .before .before .before .before .before .before .before .before .before .before .before .before .before .before .before .before .before .before .before .before .before .before .before .before .before .before .before .before .before .before .before .before .args .count ≤ length (l .times) = omega (arith, l .inv .2, k .1 .0, p .1) in
+    let hs : c .before .before .before .before .before .before .before .before .before .before .before .before .before .before .before .before .before .before .before .before .before .before .before .before .before .before .before .before .before .before .before .before .before .before .before .before .before .before .before .before .args .count ≤ length (l .statuses) = omega (arith, l .inv .3, k .1 .1 .0, p .2) in (
       put .kept .0 ∙ l .inv .0,
       length-set (l .places) (l .i) (r .place) ∙ l .inv .1,
       length-set (l .times) (l .i) (r .time) ∙ l .inv .2,
       length-set (l .statuses) (l .i) (r .status) ∙ l .inv .3,
-      going-on bytes (l .inv .4) (l .i) h (l .inv .5) (d .0 .1 .0) (d .0 .1 .1 .0) (d .0 .1 .1 .1 .0) w r hp ht hs (c .before .before .before .row-at .ensures) _ (put .last .0) (put .result) (ap (λ (x : Delta). x .0) (c .before .before .before .before .before .before .before .step2 .ensures)) (put .ensures),
-      least-again (c .before .before .before .before .before .before .before .before .before .before .before .before .before .before .before .before .before .before .before .before .before .before .before .before .before .before .before .before .before .before .before .before .before .before .before .before .args .count) (l .times) (l .statuses) (l .i) (r .time) (r .status) _ _ h ht hs refl (l .inv .5) (c .least-after .ensures),
+      going-on bytes (l .inv .4) (l .i) h (l .inv .5) (d .0 .1 .0) (d .0 .1 .1 .0) (d .0 .1 .1 .1 .0) w r hp ht hs (c .before .before .before .row-of .ensures ∙ ap (rowOf _ _ _) (c .before .before .before .before .read-event-by2 .ensures)) _ (put .last .0) (put .result) (ap (λ (x : Delta). x .0) (c .before .before .before .before .before .before .before .before .before .step2 .ensures)) (put .ensures),
+      least-again (c .before .before .before .before .before .before .before .before .before .before .before .before .before .before .before .before .before .before .before .before .before .before .before .before .before .before .before .before .before .before .before .before .before .before .before .before .before .before .before .before .args .count) (l .times) (l .statuses) (l .i) (r .time) (r .status) _ _ h ht hs refl (l .inv .5) (c .least-after .ensures),
     )
 
 pub merge-spec : {M : Type 1} → statement M
@@ -229,6 +238,7 @@ merge-spec =
     μ-loop
     start-rows-requires
     least-requires
+    sort-table-requires
     loop-holds
     greatest-time-requires
     step-requires
@@ -244,7 +254,7 @@ merge-spec =
     mul-now
     slice-read-now
     slice-read-status
-    read-event-requires
+    read-event-by-requires
     enum-known-number
     same-length-5
     same-length-6
@@ -254,7 +264,8 @@ merge-spec =
     enum-known-d
     step-requires-2
     put-event-requires-2
-    row-at-requires
+    read-event-by-requires-2
+    row-of-requires
     mul-places
     slice-write-places
     mul-times

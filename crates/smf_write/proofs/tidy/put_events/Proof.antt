@@ -17,29 +17,32 @@ use Rattle.smf_write.proofs.tidy.put_events.Statement.{statement}
 use Rattle.smf_write.proofs.tidy.put_events.Tie as tie
 
 abbrev Inv-loop : tie.InvT-loop
-Inv-loop out₀ from body short next₀ at₀ time₀ status₀ out next at time status = (at ≤ length body) × (length out ≡ length out₀) × Readable (A body at (time .0) status) × Remains out₀ from (Left (mannerOf short) body 0 0 0) out next (Left (mannerOf short) body at (time .0) status)
+Inv-loop out₀ from body short next₀ at₀ time₀ status₀ sorts out next at time status = (at ≤ length body) × (length out ≡ length out₀) × Readable (A body at (time .0) status) × Remains out₀ from (Left (mannerOf short) body 0 0 0) out next (Left (mannerOf short) body at (time .0) status)
 
 abbrev μ-loop : tie.MeasureT-loop
-μ-loop out₀ from body short next₀ at₀ time₀ status₀ out next at time status = length body - at
+μ-loop out₀ from body short next₀ at₀ time₀ status₀ sorts out next at time status = length body - at
+
+sort-table-requires : tie.Need-sort-table-requires Inv-loop μ-loop
+sort-table-requires c κs = search needs
 
 loop-holds : tie.Need-loop-holds Inv-loop μ-loop
-loop-holds c = (omega arith, refl, c .before .before .pre .1 .1, all-remains _ _ _)
+loop-holds c = (omega arith, refl, c .before .before .before .pre .1 .1, all-remains _ _ _)
 
-read-event-requires : tie.Need-read-event-requires Inv-loop μ-loop
-read-event-requires c κs = search needs
+read-event-by-requires : tie.Need-read-event-by-requires Inv-loop μ-loop
+read-event-by-requires c κs = search needs
 
 enum-known-number : tie.Need-enum-known-number Inv-loop μ-loop
 enum-known-number c = search needs
 
 same-length : tie.Need-same-length Inv-loop μ-loop
-same-length c = c .before .before .before .before .loop .inv .1
+same-length c = c .before .before .before .before .before .loop .inv .1
 
 returns : tie.Need-returns Inv-loop μ-loop
-returns c = let a = c .before .before .before .before .before .before .before .args in
+returns c = let a = c .before .before .before .before .before .before .before .before .before .args in
     let s = a .body .now in
-    let l = c .before .before .before .before .loop in
-    let bytes = bytes-of s (λ i. omega (arith, c .before .before .before .before .before .shared-slice-known .given i)) in
-    absurd (turn-stop s (l .at) (l .time .0) (l .status) bytes (c .before .before .before .read-event .ensures) (c .before .number .given .1) (l .inv .2))
+    let l = c .before .before .before .before .before .loop in
+    let bytes = bytes-of s (λ i. omega (arith, c .before .before .before .before .before .before .before .shared-slice-known .given i)) in
+    absurd (turn-stop s (l .at) (l .time .0) (l .status) bytes (c .before .before .before .read-event-by .ensures) (c .before .number .given .1) (l .inv .2))
 
 enum-known-t : tie.Need-enum-known-t Inv-loop μ-loop
 enum-known-t c = search needs
@@ -48,44 +51,44 @@ step-requires : tie.Need-step-requires Inv-loop μ-loop
 step-requires c κs = search needs
 
 put-event-requires : tie.Need-put-event-requires Inv-loop μ-loop
-put-event-requires c κs = let a = c .before .before .before .before .before .before .before .before .before .args in
+put-event-requires c κs = let a = c .before .before .before .before .before .before .before .before .before .before .before .args in
     let s = a .body .now in
-    let l = c .before .before .before .before .before .before .loop in
-    let bytes = bytes-of s (λ i. omega (arith, c .before .before .before .before .before .before .before .shared-slice-known .given i)) in
-    (omega (arith, l .inv .3 .place, left-small (mannerOf (a .short)) s 0 0 0 bytes (c .before .before .before .before .before .before .before .before .before .pre .1 .1), c .before .before .before .before .before .before .before .before .before .pre .0, c .before .before .before .before .before .before .before .before .before .pre .1 .0), omega (arith, c .before .before .before .before .before .before .before .before .before .pre .1 .0))
+    let l = c .before .before .before .before .before .before .before .loop in
+    let bytes = bytes-of s (λ i. omega (arith, c .before .before .before .before .before .before .before .before .before .shared-slice-known .given i)) in
+    (omega (arith, l .inv .3 .place, left-small (mannerOf (a .short)) s 0 0 0 bytes (c .before .before .before .before .before .before .before .before .before .before .before .pre .1 .1), c .before .before .before .before .before .before .before .before .before .before .before .pre .0, c .before .before .before .before .before .before .before .before .before .before .before .pre .1 .0), omega (arith, c .before .before .before .before .before .before .before .before .before .before .before .pre .1 .0))
 
 is-end-requires : tie.Need-is-end-requires Inv-loop μ-loop
 is-end-requires c κs = search needs
 
 same-length-2 : tie.Need-same-length-2 Inv-loop μ-loop
-same-length-2 c = c .before .before .before .before .put-event .kept .0 ∙ c .before .before .before .before .before .before .before .before .before .before .before .loop .inv .1
+same-length-2 c = c .before .before .before .before .put-event .kept .0 ∙ c .before .before .before .before .before .before .before .before .before .before .before .before .loop .inv .1
 
 returns-2 : tie.Need-returns-2 Inv-loop μ-loop
-returns-2 c = let a = c .before .before .before .before .before .before .before .before .before .before .before .before .before .before .args in
+returns-2 c = let a = c .before .before .before .before .before .before .before .before .before .before .before .before .before .before .before .before .args in
     let s = a .body .now in
-    let l = c .before .before .before .before .before .before .before .before .before .before .before .loop in
-    let bytes = bytes-of s (λ i. omega (arith, c .before .before .before .before .before .before .before .before .before .before .before .before .shared-slice-known .given i)) in
+    let l = c .before .before .before .before .before .before .before .before .before .before .before .before .loop in
+    let bytes = bytes-of s (λ i. omega (arith, c .before .before .before .before .before .before .before .before .before .before .before .before .before .before .shared-slice-known .given i)) in
     let g = c .before .before .before .before .before .before .before .before .t .given in
     let k = g .0 .1 .0 in
     let delta = ap (λ (d : Delta). d .0) (c .before .before .before .before .before .before .step .ensures) in
     let item : ℕ → List ℕ = λ z. headBytes (mannerOf (a .short)) (l .status) z k ++ dataOf (kindFrom s k) in
-    let e = event-came s (l .at) (l .time .0) (l .status) bytes (l .inv .0) (c .before .before .before .before .before .before .before .before .before .before .read-event .ensures) (g .1) in
+    let e = event-came s (l .at) (l .time .0) (l .status) bytes (l .inv .0) (c .before .before .before .before .before .before .before .before .before .before .read-event-by .ensures) (g .1) in
     let all = turn-end bytes e (l .inv .2) (sym (c .before .is-end .ensures) ∙ c .if1 .taken) in
     finish _ _ (l .inv .3) (end-left (mannerOf (a .short)) e all ∙ ap item (sym delta)) (c .before .before .before .before .put-event .ensures)
 
 loop-less : tie.Need-loop-less Inv-loop μ-loop
-loop-less c = let a = c .before .before .before .before .before .before .before .before .before .before .before .before .before .before .args in
+loop-less c = let a = c .before .before .before .before .before .before .before .before .before .before .before .before .before .before .before .before .args in
     let s = a .body .now in
-    let l = c .before .before .before .before .before .before .before .before .before .before .before .loop in
-    let bytes = bytes-of s (λ i. omega (arith, c .before .before .before .before .before .before .before .before .before .before .before .before .shared-slice-known .given i)) in
-    let e = event-came s (l .at) (l .time .0) (l .status) bytes (l .inv .0) (c .before .before .before .before .before .before .before .before .before .before .read-event .ensures) (c .before .before .before .before .before .before .before .before .t .given .1) in
+    let l = c .before .before .before .before .before .before .before .before .before .before .before .before .loop in
+    let bytes = bytes-of s (λ i. omega (arith, c .before .before .before .before .before .before .before .before .before .before .before .before .before .before .shared-slice-known .given i)) in
+    let e = event-came s (l .at) (l .time .0) (l .status) bytes (l .inv .0) (c .before .before .before .before .before .before .before .before .before .before .read-event-by .ensures) (c .before .before .before .before .before .before .before .before .t .given .1) in
     omega (arith, e .later, e .inside)
 
 loop-again : tie.Need-loop-again Inv-loop μ-loop
-loop-again c = let a = c .before .before .before .before .before .before .before .before .before .before .before .before .before .before .args in
+loop-again c = let a = c .before .before .before .before .before .before .before .before .before .before .before .before .before .before .before .before .args in
     let s = a .body .now in
-    let l = c .before .before .before .before .before .before .before .before .before .before .before .loop in
-    let bytes = bytes-of s (λ i. omega (arith, c .before .before .before .before .before .before .before .before .before .before .before .before .shared-slice-known .given i)) in
+    let l = c .before .before .before .before .before .before .before .before .before .before .before .before .loop in
+    let bytes = bytes-of s (λ i. omega (arith, c .before .before .before .before .before .before .before .before .before .before .before .before .before .before .shared-slice-known .given i)) in
     let g = c .before .before .before .before .before .before .before .before .t .given in
     let u = g .0 .0 in
     let k = g .0 .1 .0 in
@@ -93,7 +96,7 @@ loop-again c = let a = c .before .before .before .before .before .before .before
     let st = g .0 .1 .1 .1 .0 in
     let delta = ap (λ (d : Delta). d .0) (c .before .before .before .before .before .before .step .ensures) in
     let item : ℕ → List ℕ = λ z. headBytes (mannerOf (a .short)) (l .status) z k ++ dataOf (kindFrom s k) in
-    let e = event-came s (l .at) (l .time .0) (l .status) bytes (l .inv .0) (c .before .before .before .before .before .before .before .before .before .before .read-event .ensures) (g .1) in
+    let e = event-came s (l .at) (l .time .0) (l .status) bytes (l .inv .0) (c .before .before .before .before .before .before .before .before .before .before .read-event-by .ensures) (g .1) in
     let n = turn-next bytes e (l .inv .2) (sym (c .before .is-end .ensures) ∙ c .if1 .left) in
     (e .inside, c .before .before .before .before .put-event .kept .0 ∙ l .inv .1, n .0, go-on _ _ _ (l .inv .3) (next-left (mannerOf (a .short)) e (n .1) ∙ ap (λ z. item z ++ Left (mannerOf (a .short)) s q (u .0) st) (sym delta)) (c .before .before .before .before .put-event .ensures))
 
@@ -103,8 +106,9 @@ put-events-spec =
     (tie.spec
     Inv-loop
     μ-loop
+    sort-table-requires
     loop-holds
-    read-event-requires
+    read-event-by-requires
     enum-known-number
     same-length
     returns
