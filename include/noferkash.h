@@ -36,7 +36,7 @@
 #include <stdint.h>
 
 /* Of this header. noferkash_version() has that of the library. */
-#define NOFERKASH_VERSION "0.7.0"
+#define NOFERKASH_VERSION "0.7.1"
 #define NOFERKASH_VERSION_MAJOR 0
 #define NOFERKASH_VERSION_MINOR 7
 #define NOFERKASH_VERSION_PATCH 0
@@ -227,7 +227,7 @@ uint64_t noferkash_sheet_to_text(const uint8_t *saved, size_t saved_len, uint8_t
  * track"; for every other number "unknown refusal number". */
 const char *noferkash_refusal_words(int number);
 
-/* The version of the library, as "0.7.0". */
+/* The version of the library, as "0.7.1". */
 const char *noferkash_version(void);
 
 #ifdef __cplusplus
