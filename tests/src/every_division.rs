@@ -4,6 +4,8 @@
 
 use std::ops::RangeInclusive;
 
+use crate::known::Known;
+
 /// What a header may have: pulses, and 1 to 255 ticks of 30, 29, 25 and 24 frames.
 const BITS: [RangeInclusive<u16>; 5] =
     [0x0001..=0x7FFF, 0xE201..=0xE2FF, 0xE301..=0xE3FF, 0xE701..=0xE7FF, 0xE801..=0xE8FF];
@@ -11,14 +13,6 @@ const BITS: [RangeInclusive<u16>; 5] =
 /// What a Header record may have: the same, signed.
 const NUMBERS: [RangeInclusive<i64>; 5] =
     [1..=32_767, -7_679..=-7_425, -7_423..=-7_169, -6_399..=-6_145, -6_143..=-5_889];
-
-/// An input, and what is due to it.
-pub struct Known {
-    pub what: String,
-    pub input: Vec<u8>,
-    /// What is made of it in manner 0 and in manner 1, or number and place of the refusal.
-    pub due: Result<[Vec<u8>; 2], (u8, usize)>,
-}
 
 /// The file of every division, for an operation that makes this of the good ones.
 pub fn files(made: fn(u16) -> Vec<u8>) -> impl Iterator<Item = Known> {

@@ -6,9 +6,10 @@ use std::collections::BTreeSet;
 
 use second::compare::{Archive, Operation, Second};
 use second::division_coverage::{DivisionCoverage, Given};
-use second::every_division::{self, Known};
+use second::every_division;
 use second::fold::fold;
 use second::generate::{file_case, text_case};
+use second::known::Known;
 use second::operations::{check, file_to_text, text_to_file, tidy};
 use second::refusal::Answer;
 use second::run::{Run, GENERATED};

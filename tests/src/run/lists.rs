@@ -4,8 +4,9 @@ use std::ops::Range;
 
 use crate::compare::Compared;
 use crate::compare_lists::Listing;
-use crate::every_division::{self, Known};
+use crate::every_division;
 use crate::generate::{KnownLists, Rng};
+use crate::known::Known;
 
 use super::{Run, Source, SPARE};
 

@@ -21,6 +21,7 @@ use second::compare::{Compared, Operation};
 use second::compare_lists::Listing;
 use second::division_coverage::Given;
 use second::every_division;
+use second::every_first_byte::{self, Track};
 use second::fold;
 use second::generate::{
     aims, benchmark_file, damaged_table, damaged_table_case, file_case, fold_limit_cases,
@@ -107,12 +108,14 @@ type Part = (&'static dyn Compared, fn(cases: u64, first: u64, few: bool) -> Vec
 const PARTS: [Part; 8] = [
     (&CHECK, |cases, first, few| {
         let run = of_files(Run::of(&CHECK).of_few(few), |_| Vec::new());
+        let run = of_first_bytes(run, every_first_byte::nothing);
         vec![on_files(run, &read(), cases, first)]
     }),
     (&TIDY, |cases, first, few| {
         // Not 29: a file that is read has at most 1,048,576 bytes, and manner 1 takes no
         // more bytes than the spelling it had. So 29 counts as a fault here.
         let run = of_files(Run::of(&TIDY).of_few(few), every_division::short_file);
+        let run = of_first_bytes(run, every_first_byte::short_file);
         vec![
             on_files(run, &written(), cases / 2, first),
             outside_tidied(),
@@ -121,7 +124,7 @@ const PARTS: [Part; 8] = [
     }),
     (&TEXT, |cases, first, few| {
         let run = Run::holding(&TEXT, read_file).of_few(few);
-        let run = of_files(run, every_division::text);
+        let run = of_first_bytes(of_files(run, every_division::text), every_first_byte::text);
         vec![on_files(run, &written(), cases / 4, first), outside_texts()]
     }),
     (&FILE, |cases, first, few| {
@@ -199,6 +202,12 @@ fn words_given() -> Option<(u64, u64, Option<String>)> {
 fn of_files(run: Run, made: fn(u16) -> Vec<u8>) -> Run {
     let mut run = run.of_chunks().of_divisions(Given::Files);
     run.known("divisions", every_division::files(made));
+    run
+}
+
+/// The same run, gone on with the files of every byte behind a delta.
+fn of_first_bytes(mut run: Run, made: fn(&Track) -> Vec<u8>) -> Run {
+    run.known("first bytes", every_first_byte::files(made));
     run
 }
 
