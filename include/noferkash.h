@@ -39,7 +39,7 @@
 #define NOFERKASH_VERSION "0.7.1"
 #define NOFERKASH_VERSION_MAJOR 0
 #define NOFERKASH_VERSION_MINOR 7
-#define NOFERKASH_VERSION_PATCH 0
+#define NOFERKASH_VERSION_PATCH 1
 
 /* The largest file, read or written, the largest text read and the largest table, in bytes. */
 #define NOFERKASH_FILE_LIMIT 1048576

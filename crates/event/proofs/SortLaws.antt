@@ -4,13 +4,13 @@ use Prim.Native.Nat.{ℕ, _<_, _≤_}
 use mathlib.Core.Bool.{Bool, true, false}
 use mathlib.Core.List.{List}
 use native.Mathlib.Omega.{arith}
-use lib.ListN.{length, getD}
+use lib.ListN.{getD}
 use lib.Dec.{leb, eqb}
 use borrow.Author.Tests.{leb-true, leb-false, eqb-true, eqb-false}
 use Rattle.event.specs.Choice.{pick}
 use Rattle.event.specs.Outcome.{refused, check}
 use Rattle.event.specs.Reader.{oneData, twoData, oneByte, channelData, isChannel}
-use Rattle.event.specs.Sort.{sortOf, Sorts}
+use Rattle.event.specs.Sort.{sortOf, sortTable}
 use Rattle.event.proofs.ChoiceLaws.{by-test}
 use Rattle.event.proofs.FrameLaws.{channel-is}
 use Rattle.event.proofs.KindLaws.{one-low, one-yes, one-high}
@@ -20,12 +20,17 @@ use Rattle.event.proofs.Table.{every, at}
 -- ---- the table
 
 -- the test of an entry: the number n at the place b is the chain's
-abbrev pub agrees : ℕ → ℕ → Bool
+abbrev agrees : ℕ → ℕ → Bool
 agrees b n = eqb n (sortOf b)
 
-pub agreed : (t : List ℕ) → every agrees 0 t ≡ true → length t ≡ 256 → Sorts t
-unfolding Sorts
-agreed t e n b h = eqb-true (getD t b 0) (sortOf b) (at agrees t b e (omega (arith, n)))
+-- "Prove once over the entire table that it agrees with a chain of comparisons": antt computes the test
+tested : every agrees 0 sortTable ≡ true
+unfolding sortTable sortOf pick
+tested = refl
+
+pub table-at : (b : ℕ) → b < 256 → getD sortTable b 0 ≡ sortOf b
+unfolding sortTable
+table-at b h = eqb-true (getD sortTable b 0) (sortOf b) (at agrees sortTable b tested h)
 
 -- ---- the chain
 

@@ -1,29 +1,32 @@
 -- Document 02, request 9: "The byte after the delta", sorted by "a table of 256 numbers, each coding the kind of event and, for 80h to
 -- EFh, how many data bytes follow (else 0)", and the "chain of comparisons, which stands as the meaning".
-use mathlib.Core.Path.{_≡_}
-use Prim.Native.Nat.{ℕ, _+_, _*_, _<_}
-use mathlib.Core.List.{List}
-use lib.ListN.{getD}
+use Prim.Native.Nat.{ℕ, _+_, _*_}
+use mathlib.Core.List.{List, [], _∷_, _++_}
+use lib.ListN.{replicate}
 use lib.Dec.{leb, eqb}
 use Rattle.event.specs.Choice.{pick}
 
--- the kinds of event, by the byte after the delta: that of the status in force, a channel event, System_exclusive,
--- System_exclusive_packet, a meta event, none
+-- "the kind of event", as a number. A "data byte": the event is of the status in force, which was left out
 abbrev pub ofForce : ℕ
 ofForce = 0
 
+-- "8n" to "En": a channel event
 abbrev pub ofChannel : ℕ
 ofChannel = 1
 
+-- "F0": System_exclusive
 abbrev pub ofExclusive : ℕ
 ofExclusive = 2
 
+-- "F7": System_exclusive_packet
 abbrev pub ofPacket : ℕ
 ofPacket = 3
 
+-- "FF": a meta event
 abbrev pub ofMeta : ℕ
 ofMeta = 4
 
+-- "F1..F6, F8..FE": none
 abbrev pub ofNone : ℕ
 ofNone = 5
 
@@ -31,8 +34,8 @@ ofNone = 5
 abbrev pub coded : ℕ → ℕ → ℕ
 coded kind follow = 4 * kind + follow
 
--- the chain, in the order of document 01's rows: "Channel data bytes are 0..127"; "8n, 9n, An k v", "Bn c v"; "Cn p, Dn v"; "En l m";
--- "F0, F7, then length, data"; FF; "F1..F6, F8..FE"
+-- the "chain of comparisons", in the order of document 01's rows: "Channel data bytes are 0..127"; "8n, 9n, An k v", "Bn c v";
+-- "Cn p, Dn v"; "En l m"; "F0, F7, then length, data"; "FF"; the others
 unfoldable pub sortOf : ℕ → ℕ
 sortOf b =
     pick (leb b 0x7f) (coded ofForce 0)
@@ -43,6 +46,8 @@ sortOf b =
     (pick (eqb b 0xf7) (coded ofPacket 0)
     (pick (eqb b 0xff) (coded ofMeta 0) (coded ofNone 0)))))))
 
--- "it agrees with a chain of comparisons": a table that says of every byte what the chain says
-unfoldable pub Sorts : List ℕ → Type 0
-Sorts t = (b : ℕ) → b < 256 → getD t b 0 ≡ sortOf b
+-- "a table of 256 numbers": the numbers of 00 to 7F, 80 to BF, C0 to DF and E0 to EF, then of F0 to FF one by one
+unfoldable pub sortTable : List ℕ
+sortTable =
+    replicate 128 0 ++ replicate 64 6 ++ replicate 32 5 ++ replicate 16 6
+    ++ (8 ∷ 20 ∷ 20 ∷ 20 ∷ 20 ∷ 20 ∷ 20 ∷ 12 ∷ 20 ∷ 20 ∷ 20 ∷ 20 ∷ 20 ∷ 20 ∷ 20 ∷ 16 ∷ [])

@@ -4,7 +4,7 @@ ghost use lib.ListN.{length, drop};
 ghost use Rattle.event.specs.Reader.{readFrame, readEvent};
 ghost use Rattle.event.specs.Step.{frameStep, padded, eventStep, endOf, placeOf};
 ghost use Rattle.event.specs.Padding.{framePadding, eventPadding};
-ghost use Rattle.event.specs.Sort.{Sorts};
+ghost use Rattle.event.specs.Sort.{sortTable};
 use super::DataPlace;
 use super::Delta;
 use super::EventKind;
@@ -22,13 +22,13 @@ use super::sort::EXCLUSIVE;
 use super::sort::META;
 use super::sort::ONE_FOLLOWS;
 use super::sort::PACKET;
+use super::sort::SORTS;
 use super::sort::TWO_FOLLOW;
 use super::sort::sort_of;
-use super::sort::sort_table;
 
 // An event after its delta, from its status on; status is the one in force.
 fn after_delta(body: &[u8], at: usize, status: u8, sorts: &[u8; 256]) -> FrameStep
-    requires { ⌜ Sorts (now sorts) ⌝ }
+    requires { ⌜ now sorts ≡ sortTable ⌝ }
     ensures { λ r. ⌜ r ≡ padded (framePadding (drop at (now (body .entry)))) (frameStep (length (now (body .entry))) (readFrame status (drop at (now (body .entry))))) ⌝ }
 {
     if body.len() <= at {
@@ -50,7 +50,7 @@ fn after_delta(body: &[u8], at: usize, status: u8, sorts: &[u8; 256]) -> FrameSt
 // The event at a place of a track's body, after the Time so far, with the status in force (0: none), by a table that is
 // lent.
 pub fn read_event_by(body: &[u8], at: usize, time: Time, status: u8, sorts: &[u8; 256]) -> EventStep
-    requires { ⌜ Sorts (now sorts) ⌝ }
+    requires { ⌜ now sorts ≡ sortTable ⌝ }
     ensures { λ r. ⌜ r ≡ eventStep (length (now (body .entry))) (eventPadding (drop at (now (body .entry)))) (readEvent (time .0) status (drop at (now (body .entry)))) ⌝ }
 {
     match read_number(body, at) {
@@ -87,7 +87,7 @@ pub fn read_event_by(body: &[u8], at: usize, time: Time, status: u8, sorts: &[u8
 pub fn read_event(body: &[u8], at: usize, time: Time, status: u8) -> EventStep
     ensures { λ r. ⌜ r ≡ eventStep (length (now (body .entry))) (eventPadding (drop at (now (body .entry)))) (readEvent (time .0) status (drop at (now (body .entry)))) ⌝ }
 {
-    let sorts = sort_table();
+    let sorts = SORTS;
     read_event_by(body, at, time, status, &sorts)
 }
 

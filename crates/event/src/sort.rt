@@ -1,9 +1,9 @@
 // The byte after the delta, sorted by one table.
 ghost use mathlib.Core.Path.{_≡_};
-ghost use Rattle.event.specs.Sort.{sortOf, Sorts};
+ghost use Rattle.event.specs.Sort.{sortOf, sortTable};
 
-// What the table says of a byte: four times the kind of event and, of a channel status, the data bytes that
-// follow it.
+// What the table says of a byte: four times the kind of event and, of a channel status, how many data bytes
+// follow.
 pub const DATA_BYTE: u8 = 0;
 
 pub const ONE_FOLLOWS: u8 = 5;
@@ -18,7 +18,8 @@ pub const META: u8 = 16;
 
 const NO_EVENT: u8 = 20;
 
-const SORTS: [u8; 256] = [
+// Beside each entry its byte, in hexadecimal digits. A loop holds the table and lends it.
+pub const SORTS: [u8; 256] = [
     DATA_BYTE, // 00
     DATA_BYTE, // 01
     DATA_BYTE, // 02
@@ -277,16 +278,9 @@ const SORTS: [u8; 256] = [
     META, // FF
 ];
 
-// The table, for a loop to hold and to lend: indexed in place it would be made anew each time.
-pub fn sort_table() -> [u8; 256]
-    ensures { λ r. ⌜ Sorts r ⌝ }
-{
-    SORTS
-}
-
-// What the table says of a byte.
+// What the table says of a byte. It is lent: a constant that is indexed in place is made anew each time.
 pub fn sort_of(b: u8, sorts: &[u8; 256]) -> u8
-    requires { ⌜ Sorts (now sorts) ⌝ }
+    requires { ⌜ now sorts ≡ sortTable ⌝ }
     ensures { λ r. ⌜ r ≡ sortOf b ⌝ }
 {
     let i = b as usize;

@@ -34,7 +34,7 @@ fn scan_track(body: &[u8], base: usize) -> Answer
     let mut at: usize = 0;
     let mut time = Time(0);
     let mut status: u8 = 0;
-    let sorts = event::sort::sort_table();
+    let sorts = event::sort::SORTS;
     loop {
         match event::read::read_event_by(body, at, time, status, &sorts) {
             EventStep::Stop { number } => {

@@ -41,7 +41,7 @@ pub fn merge(
     let mut last = Time(0);
     let mut force: u8 = 0;
     let mut i = least(times, statuses, count);
-    let sorts = event::sort::sort_table();
+    let sorts = event::sort::SORTS;
     loop {
         if count <= i {
             let t = greatest_time(times, count);

@@ -67,7 +67,7 @@ fn walk_track(body: &[u8], base: usize) -> WalkStep
     let mut status: u8 = 0;
     let mut events: u32 = 0;
     let mut padding: u32 = 0;
-    let sorts = event::sort::sort_table();
+    let sorts = event::sort::SORTS;
     loop {
         match event::read::read_event_by(body, at, prev, status, &sorts) {
             event::EventStep::Stop { number } => {

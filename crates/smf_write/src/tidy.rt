@@ -66,7 +66,7 @@ fn put_events(out: &mut [u8], from: usize, body: &[u8], short: bool) -> usize
     let mut at: usize = 0;
     let mut time = Time(0);
     let mut status: u8 = 0;
-    let sorts = event::sort::sort_table();
+    let sorts = event::sort::SORTS;
     loop {
         match event::read::read_event_by(body, at, time, status, &sorts) {
             EventStep::Stop { number } => {

@@ -1,4 +1,6 @@
-use Rattle.event.specs.Sort.{Sorts}
+use mathlib.Core.Path.{ap, _∙_}
+use lib.ListN.{getD}
+use Rattle.event.proofs.SortLaws.{table-at}
 use borrow.Author.Needs.{needs}
 use Rattle.event.proofs.sort.sort_of.Statement.{statement}
 use Rattle.event.proofs.sort.sort_of.Tie as tie
@@ -7,8 +9,7 @@ element-copy-out-result : tie.Need-element-copy-out-result
 element-copy-out-result c = search needs
 
 returns : tie.Need-returns
-unfolding Sorts
-returns c = c .before .pre (c .before .args .b) (search needs)
+returns c = let b = c .before .args .b in ap (λ t. getD t b 0) (c .before .pre) ∙ table-at b (search needs)
 
 pub sort-of-spec : {M : Type 1} → statement M
 sort-of-spec = tie.close (tie.spec element-copy-out-result returns)

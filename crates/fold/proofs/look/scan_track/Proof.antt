@@ -4,7 +4,8 @@ use Rattle.event.proofs.BytesLaws.{bytes-of}
 use Rattle.smf.proofs.TurnLaws.{turn-stop}
 use Rattle.fold.proofs.ScanLaws.{Scanning, scan-first, scan-found, scan-ended, scan-next}
 use native.Mathlib.Omega.{arith}
-use mathlib.Core.Path.{sym, _∙_}
+use mathlib.Core.Path.{sym, _∙_, refl}
+use Rattle.event.specs.Sort.{sortTable}
 use borrow.Author.Needs.{needs}
 use Rattle.fold.proofs.look.scan_track.Statement.{statement}
 use Rattle.fold.proofs.look.scan_track.Tie as tie
@@ -15,14 +16,12 @@ Inv-loop body base at₀ time₀ status₀ sorts at time status = (at ≤ length
 abbrev μ-loop : tie.MeasureT-loop
 μ-loop body base at₀ time₀ status₀ sorts at time status = length body - at
 
-sort-table-requires : tie.Need-sort-table-requires Inv-loop μ-loop
-sort-table-requires c κs = search needs
-
 loop-holds : tie.Need-loop-holds Inv-loop μ-loop
-loop-holds c = (omega arith, scan-first _ _ (c .before .before .pre .1))
+loop-holds c = (omega arith, scan-first _ _ (c .before .pre .1))
 
 read-event-by-requires : tie.Need-read-event-by-requires Inv-loop μ-loop
-read-event-by-requires c κs = search needs
+unfolding sortTable
+read-event-by-requires c κs = refl
 
 enum-known-number : tie.Need-enum-known-number Inv-loop μ-loop
 enum-known-number c = search needs
@@ -31,8 +30,8 @@ success-requires : tie.Need-success-requires Inv-loop μ-loop
 success-requires c κs = search needs
 
 returns : tie.Need-returns Inv-loop μ-loop
-returns c = let a = c .before .before .before .before .before .before .before .before .before .args in let l = c .before .before .before .before .before .before .loop in
-    let bytes = bytes-of (a .body .now) (λ k. omega (arith, c .before .before .before .before .before .before .before .before .shared-slice-known .given k)) in
+returns c = let a = c .before .before .before .before .before .before .before .before .args in let l = c .before .before .before .before .before .before .loop in
+    let bytes = bytes-of (a .body .now) (λ k. omega (arith, c .before .before .before .before .before .before .before .shared-slice-known .given k)) in
     absurd (turn-stop (a .body .now) (l .at) (l .time .0) (l .status) bytes (c .before .before .before .before .read-event-by .ensures) (c .before .before .number .given .1) (l .inv .1 .readable))
 
 enum-known-t : tie.Need-enum-known-t Inv-loop μ-loop
@@ -48,8 +47,8 @@ refusal-requires : tie.Need-refusal-requires Inv-loop μ-loop
 refusal-requires c κs = search needs
 
 returns-2 : tie.Need-returns-2 Inv-loop μ-loop
-returns-2 c = let a = c .before .before .before .before .before .before .before .before .before .before .before .args in let l = c .before .before .before .before .before .before .before .before .loop in
-    let bytes = bytes-of (a .body .now) (λ k. omega (arith, c .before .before .before .before .before .before .before .before .before .before .shared-slice-known .given k)) in
+returns-2 c = let a = c .before .before .before .before .before .before .before .before .before .before .args in let l = c .before .before .before .before .before .before .before .before .loop in
+    let bytes = bytes-of (a .body .now) (λ k. omega (arith, c .before .before .before .before .before .before .before .before .before .shared-slice-known .given k)) in
     c .refusal .ensures ∙ scan-found (l .inv .1) bytes (l .inv .0) (sym (c .before .before .before .before .before .before .read-event-by .ensures) ∙ c .before .before .before .before .t .given .1) (sym (c .before .before .is-prefix-or-port .ensures) ∙ c .before .if1 .taken)
 
 is-end-requires : tie.Need-is-end-requires Inv-loop μ-loop
@@ -59,19 +58,19 @@ success-requires-2 : tie.Need-success-requires-2 Inv-loop μ-loop
 success-requires-2 c κs = search needs
 
 returns-3 : tie.Need-returns-3 Inv-loop μ-loop
-returns-3 c = let a = c .before .before .before .before .before .before .before .before .before .before .before .before .before .args in let l = c .before .before .before .before .before .before .before .before .before .before .loop in
-    let bytes = bytes-of (a .body .now) (λ k. omega (arith, c .before .before .before .before .before .before .before .before .before .before .before .before .shared-slice-known .given k)) in
+returns-3 c = let a = c .before .before .before .before .before .before .before .before .before .before .before .before .args in let l = c .before .before .before .before .before .before .before .before .before .before .loop in
+    let bytes = bytes-of (a .body .now) (λ k. omega (arith, c .before .before .before .before .before .before .before .before .before .before .before .shared-slice-known .given k)) in
     c .success2 .ensures ∙ scan-ended (l .inv .1) bytes (l .inv .0) (sym (c .before .before .before .before .before .before .before .before .read-event-by .ensures) ∙ c .before .before .before .before .before .before .t .given .1) (sym (c .before .before .before .before .is-prefix-or-port .ensures) ∙ c .before .before .before .if1 .left) (sym (c .before .before .is-end .ensures) ∙ c .before .if2 .taken)
 
 loop-less : tie.Need-loop-less Inv-loop μ-loop
-loop-less c = let a = c .before .before .before .before .before .before .before .before .before .before .before .before .args in let l = c .before .before .before .before .before .before .before .before .before .loop in
-    let bytes = bytes-of (a .body .now) (λ k. omega (arith, c .before .before .before .before .before .before .before .before .before .before .before .shared-slice-known .given k)) in
+loop-less c = let a = c .before .before .before .before .before .before .before .before .before .before .before .args in let l = c .before .before .before .before .before .before .before .before .before .loop in
+    let bytes = bytes-of (a .body .now) (λ k. omega (arith, c .before .before .before .before .before .before .before .before .before .before .shared-slice-known .given k)) in
     let n = scan-next (l .inv .1) bytes (l .inv .0) (sym (c .before .before .before .before .before .before .before .read-event-by .ensures) ∙ c .before .before .before .before .before .t .given .1) (sym (c .before .before .before .is-prefix-or-port .ensures) ∙ c .before .before .if1 .left) (sym (c .before .is-end .ensures) ∙ c .if2 .left) in
     omega (arith, n .0, n .1)
 
 loop-again : tie.Need-loop-again Inv-loop μ-loop
-loop-again c = let a = c .before .before .before .before .before .before .before .before .before .before .before .before .args in let l = c .before .before .before .before .before .before .before .before .before .loop in
-    let bytes = bytes-of (a .body .now) (λ k. omega (arith, c .before .before .before .before .before .before .before .before .before .before .before .shared-slice-known .given k)) in
+loop-again c = let a = c .before .before .before .before .before .before .before .before .before .before .before .args in let l = c .before .before .before .before .before .before .before .before .before .loop in
+    let bytes = bytes-of (a .body .now) (λ k. omega (arith, c .before .before .before .before .before .before .before .before .before .before .shared-slice-known .given k)) in
     let n = scan-next (l .inv .1) bytes (l .inv .0) (sym (c .before .before .before .before .before .before .before .read-event-by .ensures) ∙ c .before .before .before .before .before .t .given .1) (sym (c .before .before .before .is-prefix-or-port .ensures) ∙ c .before .before .if1 .left) (sym (c .before .is-end .ensures) ∙ c .if2 .left) in
     (n .1, n .2)
 
@@ -81,7 +80,6 @@ scan-track-spec =
     (tie.spec
     Inv-loop
     μ-loop
-    sort-table-requires
     loop-holds
     read-event-by-requires
     enum-known-number

@@ -10,6 +10,7 @@ use Rattle.smf.proofs.TurnLaws.{A, turn-stop, turn-next, turn-end}
 use Rattle.midicsv_write.proofs.TextLaws.{EventsLeft, next-line, last-line, events-few}
 use mathlib.Core.Path.{_≡_, refl, sym, _∙_}
 use native.Mathlib.Omega.{arith}
+use Rattle.event.specs.Sort.{sortTable}
 use borrow.Author.Needs.{needs}
 use Rattle.midicsv_write.proofs.to_text.put_events.Statement.{statement}
 use Rattle.midicsv_write.proofs.to_text.put_events.Tie as tie
@@ -20,14 +21,12 @@ Inv-loop out₀ from body track sheet next₀ at₀ time₀ status₀ sorts out 
 abbrev μ-loop : tie.MeasureT-loop
 μ-loop out₀ from body track sheet next₀ at₀ time₀ status₀ sorts out next at time status = length body - at
 
-sort-table-requires : tie.Need-sort-table-requires Inv-loop μ-loop
-sort-table-requires c κs = search needs
-
 loop-holds : tie.Need-loop-holds Inv-loop μ-loop
-loop-holds c = (omega arith, refl, c .before .before .before .pre .1 .1 .1, all-remains _ _ _)
+loop-holds c = (omega arith, refl, c .before .before .pre .1 .1 .1, all-remains _ _ _)
 
 read-event-by-requires : tie.Need-read-event-by-requires Inv-loop μ-loop
-read-event-by-requires c κs = search needs
+unfolding sortTable
+read-event-by-requires c κs = refl
 
 enum-known-number : tie.Need-enum-known-number Inv-loop μ-loop
 enum-known-number c = search needs
@@ -37,10 +36,10 @@ same-length c = c .before .before .before .before .before .loop .inv .1
 
 returns : tie.Need-returns Inv-loop μ-loop
 returns c =
-    let a = c .before .before .before .before .before .before .before .before .before .args in
+    let a = c .before .before .before .before .before .before .before .before .args in
     let s = a .body .now in
     let l = c .before .before .before .before .before .loop in
-    let bytes = bytes-of s (λ i. omega (arith, c .before .before .before .before .before .before .before .shared-slice-known .given i)) in
+    let bytes = bytes-of s (λ i. omega (arith, c .before .before .before .before .before .before .shared-slice-known .given i)) in
     absurd (turn-stop s (l .at) (l .time .0) (l .status) bytes (c .before .before .before .read-event-by .ensures) (c .before .number .given .1) (l .inv .2))
 
 enum-known-t : tie.Need-enum-known-t Inv-loop μ-loop
@@ -48,11 +47,11 @@ enum-known-t c = search needs
 
 put-event-line-requires : tie.Need-put-event-line-requires Inv-loop μ-loop
 put-event-line-requires c κs =
-    let a = c .before .before .before .before .before .before .before .before .before .before .args in
+    let a = c .before .before .before .before .before .before .before .before .before .args in
     let s = a .body .now in
     let l = c .before .before .before .before .before .before .loop in
-    let bytes = bytes-of s (λ i. omega (arith, c .before .before .before .before .before .before .before .before .shared-slice-known .given i)) in
-    let p = c .before .before .before .before .before .before .before .before .before .before .pre in
+    let bytes = bytes-of s (λ i. omega (arith, c .before .before .before .before .before .before .before .shared-slice-known .given i)) in
+    let p = c .before .before .before .before .before .before .before .before .before .pre in
     (omega (arith, l .inv .3 .place, events-few (formOf (a .sheet)) (a .track) s 0 0 0 (p .1 .1 .0) bytes (p .1 .1 .1), most-few (formOf (a .sheet)) (length (drop 0 s)), p .0, p .1 .0), p .1 .0)
 
 is-end-requires : tie.Need-is-end-requires Inv-loop μ-loop
@@ -63,29 +62,29 @@ same-length-2 c = c .before .before .before .before .put-event-line .kept .0 ∙
 
 returns-2 : tie.Need-returns-2 Inv-loop μ-loop
 returns-2 c =
-    let a = c .before .before .before .before .before .before .before .before .before .before .before .before .before .before .before .args in
+    let a = c .before .before .before .before .before .before .before .before .before .before .before .before .before .before .args in
     let s = a .body .now in
     let l = c .before .before .before .before .before .before .before .before .before .before .before .loop in
-    let bytes = bytes-of s (λ i. omega (arith, c .before .before .before .before .before .before .before .before .before .before .before .before .before .shared-slice-known .given i)) in
+    let bytes = bytes-of s (λ i. omega (arith, c .before .before .before .before .before .before .before .before .before .before .before .before .shared-slice-known .given i)) in
     let e = event-came s (l .at) (l .time .0) (l .status) bytes (l .inv .0) (c .before .before .before .before .before .before .before .before .before .read-event-by .ensures) (c .before .before .before .before .before .before .before .t .given .1) in
     let all = turn-end bytes e (l .inv .2) (sym (c .before .is-end .ensures) ∙ c .if1 .taken) in
     finish _ _ (l .inv .3) (last-line (formOf (a .sheet)) (a .track) e all) (c .before .before .before .before .put-event-line .ensures)
 
 loop-less : tie.Need-loop-less Inv-loop μ-loop
 loop-less c =
-    let a = c .before .before .before .before .before .before .before .before .before .before .before .before .before .before .before .args in
+    let a = c .before .before .before .before .before .before .before .before .before .before .before .before .before .before .args in
     let s = a .body .now in
     let l = c .before .before .before .before .before .before .before .before .before .before .before .loop in
-    let bytes = bytes-of s (λ i. omega (arith, c .before .before .before .before .before .before .before .before .before .before .before .before .before .shared-slice-known .given i)) in
+    let bytes = bytes-of s (λ i. omega (arith, c .before .before .before .before .before .before .before .before .before .before .before .before .shared-slice-known .given i)) in
     let e = event-came s (l .at) (l .time .0) (l .status) bytes (l .inv .0) (c .before .before .before .before .before .before .before .before .before .read-event-by .ensures) (c .before .before .before .before .before .before .before .t .given .1) in
     omega (arith, e .later, e .inside)
 
 loop-again : tie.Need-loop-again Inv-loop μ-loop
 loop-again c =
-    let a = c .before .before .before .before .before .before .before .before .before .before .before .before .before .before .before .args in
+    let a = c .before .before .before .before .before .before .before .before .before .before .before .before .before .before .args in
     let s = a .body .now in
     let l = c .before .before .before .before .before .before .before .before .before .before .before .loop in
-    let bytes = bytes-of s (λ i. omega (arith, c .before .before .before .before .before .before .before .before .before .before .before .before .before .shared-slice-known .given i)) in
+    let bytes = bytes-of s (λ i. omega (arith, c .before .before .before .before .before .before .before .before .before .before .before .before .shared-slice-known .given i)) in
     let e = event-came s (l .at) (l .time .0) (l .status) bytes (l .inv .0) (c .before .before .before .before .before .before .before .before .before .read-event-by .ensures) (c .before .before .before .before .before .before .before .t .given .1) in
     let n = turn-next bytes e (l .inv .2) (sym (c .before .is-end .ensures) ∙ c .if1 .left) in
     (e .inside, c .before .before .before .before .put-event-line .kept .0 ∙ l .inv .1, n .0, go-on _ _ _ (l .inv .3) (next-line (formOf (a .sheet)) (a .track) e (n .1)) (c .before .before .before .before .put-event-line .ensures))
@@ -96,7 +95,6 @@ put-events-spec =
     (tie.spec
     Inv-loop
     μ-loop
-    sort-table-requires
     loop-holds
     read-event-by-requires
     enum-known-number

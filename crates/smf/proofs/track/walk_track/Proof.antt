@@ -9,7 +9,8 @@ use Rattle.smf.specs.declared.WalkStep.the-variants.{Whole}
 use Rattle.smf.proofs.PaddingLaws.{padding-next, padding-end, padding-taken}
 use Rattle.smf.proofs.WalkLaws.{turn-stop, turn-next, turn-end, turn-more}
 use native.Mathlib.Omega.{arith}
-use mathlib.Core.Path.{_≡_, sym, _∙_, ap}
+use mathlib.Core.Path.{_≡_, sym, _∙_, ap, refl}
+use Rattle.event.specs.Sort.{sortTable}
 use borrow.Author.Needs.{needs}
 use Rattle.smf.proofs.track.walk_track.Statement.{statement}
 use Rattle.smf.proofs.track.walk_track.Tie as tie
@@ -20,16 +21,14 @@ Inv-loop body base at₀ prev₀ status₀ events₀ padding₀ sorts at prev st
 abbrev μ-loop : tie.MeasureT-loop
 μ-loop body base at₀ prev₀ status₀ events₀ padding₀ sorts at prev status events padding = length body - at
 
-sort-table-requires : tie.Need-sort-table-requires Inv-loop μ-loop
-sort-table-requires c κs = search needs
-
 loop-holds : tie.Need-loop-holds Inv-loop μ-loop
-loop-holds c = let a = c .before .before .args in
+loop-holds c = let a = c .before .args in
     let e : a .base ≡ a .base + 0 = omega arith in
     (omega arith, omega arith, ap (λ z. walkStep 0 0 (allPadding 0 0 (a .body .now)) (readAll z 0 0 (a .body .now))) e, omega arith, omega arith)
 
 read-event-by-requires : tie.Need-read-event-by-requires Inv-loop μ-loop
-read-event-by-requires c κs = search needs
+unfolding sortTable
+read-event-by-requires c κs = refl
 
 enum-known-number : tie.Need-enum-known-number Inv-loop μ-loop
 enum-known-number c = search needs
@@ -38,25 +37,25 @@ add-place : tie.Need-add-place Inv-loop μ-loop
 add-place c = omega arith
 
 returns : tie.Need-returns Inv-loop μ-loop
-returns c = let a = c .before .before .before .before .before .before .before .before .args in
+returns c = let a = c .before .before .before .before .before .before .before .args in
     let l = c .before .before .before .before .before .loop in
-    let bytes = bytes-of (a .body .now) (λ i. omega (arith, c .before .before .before .before .before .before .before .shared-slice-known .given i)) in
+    let bytes = bytes-of (a .body .now) (λ i. omega (arith, c .before .before .before .before .before .before .shared-slice-known .given i)) in
     sym (l .inv .2 ∙ turn-stop _ (a .body .now) (a .base) (l .at) (l .prev .0) (l .events) (l .status) bytes (c .before .before .before .read-event-by .ensures) (c .before .number .given .1))
 
 enum-known-time : tie.Need-enum-known-time Inv-loop μ-loop
 enum-known-time c = search needs
 
 add-events : tie.Need-add-events Inv-loop μ-loop
-add-events c = let a = c .before .before .before .before .before .before .before .before .args in
+add-events c = let a = c .before .before .before .before .before .before .before .args in
     let l = c .before .before .before .before .before .loop in
-    let bytes = bytes-of (a .body .now) (λ i. omega (arith, c .before .before .before .before .before .before .before .shared-slice-known .given i)) in
+    let bytes = bytes-of (a .body .now) (λ i. omega (arith, c .before .before .before .before .before .before .shared-slice-known .given i)) in
     let e = event-came (a .body .now) (l .at) (l .prev .0) (l .status) bytes (l .inv .0) (c .before .before .before .read-event-by .ensures) (c .before .time .given .1) in
     omega (arith, e .later, e .inside)
 
 add-padding : tie.Need-add-padding Inv-loop μ-loop
-add-padding c = let a = c .before .before .before .before .before .before .before .before .args in
+add-padding c = let a = c .before .before .before .before .before .before .before .args in
     let l = c .before .before .before .before .before .loop in
-    let bytes = bytes-of (a .body .now) (λ i. omega (arith, c .before .before .before .before .before .before .before .shared-slice-known .given i)) in
+    let bytes = bytes-of (a .body .now) (λ i. omega (arith, c .before .before .before .before .before .before .shared-slice-known .given i)) in
     let e = event-came (a .body .now) (l .at) (l .prev .0) (l .status) bytes (l .inv .0) (c .before .before .before .read-event-by .ensures) (c .before .time .given .1) in
     let x = event-padding (a .body .now) (l .at) (l .prev .0) (l .status) (c .before .before .before .read-event-by .ensures) (c .before .time .given .1) in
     omega (arith, e .later, e .inside, padding-taken bytes e _ x, l .inv .4)
@@ -65,16 +64,16 @@ is-end-requires : tie.Need-is-end-requires Inv-loop μ-loop
 is-end-requires c κs = search needs
 
 add-place-2 : tie.Need-add-place-2 Inv-loop μ-loop
-add-place-2 c = let a = c .before .before .before .before .before .before .before .before .before .before .before .args in
+add-place-2 c = let a = c .before .before .before .before .before .before .before .before .before .before .args in
     let l = c .before .before .before .before .before .before .before .before .loop in
-    let bytes = bytes-of (a .body .now) (λ i. omega (arith, c .before .before .before .before .before .before .before .before .before .before .shared-slice-known .given i)) in
+    let bytes = bytes-of (a .body .now) (λ i. omega (arith, c .before .before .before .before .before .before .before .before .before .shared-slice-known .given i)) in
     let e = event-came (a .body .now) (l .at) (l .prev .0) (l .status) bytes (l .inv .0) (c .before .before .before .before .before .before .read-event-by .ensures) (c .before .before .before .before .time .given .1) in
     omega (arith, e .later, e .inside)
 
 returns-2 : tie.Need-returns-2 Inv-loop μ-loop
-returns-2 c = let a = c .before .before .before .before .before .before .before .before .before .before .before .args in
+returns-2 c = let a = c .before .before .before .before .before .before .before .before .before .before .args in
     let l = c .before .before .before .before .before .before .before .before .loop in
-    let bytes = bytes-of (a .body .now) (λ i. omega (arith, c .before .before .before .before .before .before .before .before .before .before .shared-slice-known .given i)) in
+    let bytes = bytes-of (a .body .now) (λ i. omega (arith, c .before .before .before .before .before .before .before .before .before .shared-slice-known .given i)) in
     let e = event-came (a .body .now) (l .at) (l .prev .0) (l .status) bytes (l .inv .0) (c .before .before .before .before .before .before .read-event-by .ensures) (c .before .before .before .before .time .given .1) in
     sym (l .inv .2 ∙ turn-more _ (a .base) (l .events) bytes e (sym (c .before .before .is-end .ensures) ∙ c .before .if1 .taken) (c .if2 .taken))
 
@@ -82,9 +81,9 @@ whole-requires : tie.Need-whole-requires Inv-loop μ-loop
 whole-requires c κs = search needs
 
 returns-3 : tie.Need-returns-3 Inv-loop μ-loop
-returns-3 c = let a = c .before .before .before .before .before .before .before .before .before .before .before .before .args in
+returns-3 c = let a = c .before .before .before .before .before .before .before .before .before .before .before .args in
     let l = c .before .before .before .before .before .before .before .before .before .loop in
-    let bytes = bytes-of (a .body .now) (λ i. omega (arith, c .before .before .before .before .before .before .before .before .before .before .before .shared-slice-known .given i)) in
+    let bytes = bytes-of (a .body .now) (λ i. omega (arith, c .before .before .before .before .before .before .before .before .before .before .shared-slice-known .given i)) in
     let e = event-came (a .body .now) (l .at) (l .prev .0) (l .status) bytes (l .inv .0) (c .before .before .before .before .before .before .before .read-event-by .ensures) (c .before .before .before .before .before .time .given .1) in
     let g = c .before .before .before .before .before .time .given in
     let last = sym (c .before .before .before .is-end .ensures) ∙ c .before .before .if1 .taken in
@@ -92,16 +91,16 @@ returns-3 c = let a = c .before .before .before .before .before .before .before 
     c .whole .ensures ∙ ap (Whole (g .0 .0) (l .events + 1)) (omega (arith, padding-end bytes e _ x (l .padding) _ last (l .inv .3))) ∙ sym (l .inv .2 ∙ turn-end _ (a .base) (l .events) bytes e last (c .before .if2 .left))
 
 loop-less : tie.Need-loop-less Inv-loop μ-loop
-loop-less c = let a = c .before .before .before .before .before .before .before .before .before .before .args in
+loop-less c = let a = c .before .before .before .before .before .before .before .before .before .args in
     let l = c .before .before .before .before .before .before .before .loop in
-    let bytes = bytes-of (a .body .now) (λ i. omega (arith, c .before .before .before .before .before .before .before .before .before .shared-slice-known .given i)) in
+    let bytes = bytes-of (a .body .now) (λ i. omega (arith, c .before .before .before .before .before .before .before .before .shared-slice-known .given i)) in
     let e = event-came (a .body .now) (l .at) (l .prev .0) (l .status) bytes (l .inv .0) (c .before .before .before .before .before .read-event-by .ensures) (c .before .before .before .time .given .1) in
     omega (arith, e .later, e .inside)
 
 loop-again : tie.Need-loop-again Inv-loop μ-loop
-loop-again c = let a = c .before .before .before .before .before .before .before .before .before .before .args in
+loop-again c = let a = c .before .before .before .before .before .before .before .before .before .args in
     let l = c .before .before .before .before .before .before .before .loop in
-    let bytes = bytes-of (a .body .now) (λ i. omega (arith, c .before .before .before .before .before .before .before .before .before .shared-slice-known .given i)) in
+    let bytes = bytes-of (a .body .now) (λ i. omega (arith, c .before .before .before .before .before .before .before .before .shared-slice-known .given i)) in
     let e = event-came (a .body .now) (l .at) (l .prev .0) (l .status) bytes (l .inv .0) (c .before .before .before .before .before .read-event-by .ensures) (c .before .before .before .time .given .1) in
     let x = event-padding (a .body .now) (l .at) (l .prev .0) (l .status) (c .before .before .before .before .before .read-event-by .ensures) (c .before .before .before .time .given .1) in
     let last = sym (c .before .is-end .ensures) ∙ c .if1 .left in
@@ -113,7 +112,6 @@ walk-track-spec =
     (tie.spec
     Inv-loop
     μ-loop
-    sort-table-requires
     loop-holds
     read-event-by-requires
     enum-known-number
