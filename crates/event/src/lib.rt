@@ -4,7 +4,7 @@ ghost use Rattle.event.specs.Dates.{laterOf, sinceOf};
 
 pub mod number; // number.rt: variable-length numbers, and bytes at a place
 pub mod sort; // sort.rt: the byte after the delta
-pub mod channel; // channel.rt: channel events
+mod channel; // channel.rt: channel events
 pub mod meta; // meta.rt: system exclusive and meta events
 pub mod read; // read.rt: an event with its delta
 

@@ -4,7 +4,7 @@ ghost use lib.ListN.{length, drop};
 ghost use Rattle.event.specs.Reader.{readFrame, readEvent};
 ghost use Rattle.event.specs.Step.{frameStep, padded, eventStep, endOf, placeOf};
 ghost use Rattle.event.specs.Padding.{framePadding, eventPadding};
-ghost use Rattle.event.specs.Sort.{sortTable};
+ghost use Rattle.event.specs.Sort.{sortOf, sortTable};
 use super::DataPlace;
 use super::Delta;
 use super::EventKind;
@@ -24,7 +24,15 @@ use super::sort::ONE_FOLLOWS;
 use super::sort::PACKET;
 use super::sort::SORTS;
 use super::sort::TWO_FOLLOW;
-use super::sort::sort_of;
+
+// What the table says of a byte. It is lent: a constant that is indexed in place is made anew each time.
+fn sort_of(b: u8, sorts: &[u8; 256]) -> u8
+    requires { ⌜ now sorts ≡ sortTable ⌝ }
+    ensures { λ r. ⌜ r ≡ sortOf b ⌝ }
+{
+    let i = b as usize;
+    sorts[i]
+}
 
 // An event after its delta, from its status on; status is the one in force.
 fn after_delta(body: &[u8], at: usize, status: u8, sorts: &[u8; 256]) -> FrameStep

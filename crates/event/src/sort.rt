@@ -1,6 +1,4 @@
 // The byte after the delta, sorted by one table.
-ghost use mathlib.Core.Path.{_≡_};
-ghost use Rattle.event.specs.Sort.{sortOf, sortTable};
 
 // What the table says of a byte: four times the kind of event and, of a channel status, how many data bytes
 // follow.
@@ -277,12 +275,3 @@ pub const SORTS: [u8; 256] = [
     NO_EVENT, // FE
     META, // FF
 ];
-
-// What the table says of a byte. It is lent: a constant that is indexed in place is made anew each time.
-pub fn sort_of(b: u8, sorts: &[u8; 256]) -> u8
-    requires { ⌜ now sorts ≡ sortTable ⌝ }
-    ensures { λ r. ⌜ r ≡ sortOf b ⌝ }
-{
-    let i = b as usize;
-    sorts[i]
-}

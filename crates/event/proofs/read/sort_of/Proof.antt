@@ -2,8 +2,8 @@ use mathlib.Core.Path.{ap, _∙_}
 use lib.ListN.{getD}
 use Rattle.event.proofs.SortLaws.{table-at}
 use borrow.Author.Needs.{needs}
-use Rattle.event.proofs.sort.sort_of.Statement.{statement}
-use Rattle.event.proofs.sort.sort_of.Tie as tie
+use Rattle.event.proofs.read.sort_of.Statement.{statement}
+use Rattle.event.proofs.read.sort_of.Tie as tie
 
 element-copy-out-result : tie.Need-element-copy-out-result
 element-copy-out-result c = search needs
