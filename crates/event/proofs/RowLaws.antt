@@ -94,15 +94,15 @@ module _ (s : List ℕ) (p : ℕ) where
   row_port a h ea = ap (λ z. Found (MidiPort z) (p + 1) 0 0) (omega arith) ∙ row_ok s 0x21 p 1 (B 0 ∷ []) port_kind h (got 1 h) refl refl
 
   module _ (a b c : ℕ) (h : p + 3 ≤ length s) (ea : a ≡ B 0) (eb : b ≡ B 1) (ec : c ≡ B 2) where
-    pub row-tempo : ((a * 256 + b) * 256 + c ≡ 0 → ⊥) → Found (Tempo ((a * 256 + b) * 256 + c)) (p + 3) 0 0 ≡ M 0x51 3
+    pub row_tempo : ((a * 256 + b) * 256 + c ≡ 0 → ⊥) → Found (Tempo ((a * 256 + b) * 256 + c)) (p + 3) 0 0 ≡ M 0x51 3
     unfolding kind_of value_ok kind_at meta_of number horner
-    row-tempo n =
+    row_tempo n =
         ap (λ z. Found (Tempo z) (p + 3) 0 0) (omega arith)
         ∙ row_ok s 0x51 p 3 (B 0 ∷ B 1 ∷ B 2 ∷ []) tempo_kind h (got 3 h) refl (le-leb 1 (((0 * 256 + B 0) * 256 + B 1) * 256 + B 2) (omega arith))
 
-    pub row-tempo-bad : (a * 256 + b) * 256 + c ≡ 0 → Refused 11 ≡ M 0x51 3
+    pub row_tempo_bad : (a * 256 + b) * 256 + c ≡ 0 → Refused 11 ≡ M 0x51 3
     unfolding kind_of value_ok number horner
-    row-tempo-bad z = row_bad s 0x51 p 3 (B 0 ∷ B 1 ∷ B 2 ∷ []) tempo_kind h (got 3 h) refl (lt-leb 1 (((0 * 256 + B 0) * 256 + B 1) * 256 + B 2) (omega arith))
+    row_tempo_bad z = row_bad s 0x51 p 3 (B 0 ∷ B 1 ∷ B 2 ∷ []) tempo_kind h (got 3 h) refl (lt-leb 1 (((0 * 256 + B 0) * 256 + B 1) * 256 + B 2) (omega arith))
 
   pub row_offset_lem : (a b c f g : ℕ) → p + 5 ≤ length s → a ≡ B 0 → b ≡ B 1 → c ≡ B 2 → f ≡ B 3 → g ≡ B 4 → g ≤ 99 → Found (SmpteOffset a b c f g) (p + 5) 0 0 ≡ M 0x54 5
   unfolding kind_of value_ok kind_at meta_of
@@ -118,29 +118,29 @@ module _ (s : List ℕ) (p : ℕ) where
   row_time_lem a b c f h ea eb ec ef = rw (ea, eb, ec, ef) (row_ok s 0x58 p 4 (B 0 ∷ B 1 ∷ B 2 ∷ B 3 ∷ []) time_kind h (got 4 h) refl refl)
 
   module _ (a b : ℕ) (h : p + 2 ≤ length s) (ea : a ≡ B 0) (eb : b ≡ B 1) where
-    key-data : take 2 (drop p s) ≡ a ∷ b ∷ []
-    key-data = rw (ea, eb) (got 2 h)
+    key_data : take 2 (drop p s) ≡ a ∷ b ∷ []
+    key_data = rw (ea, eb) (got 2 h)
 
-    pub row-sharps : a ≤ 7 → b ≤ 1 → Found (KeySignature a b) (p + 2) 0 0 ≡ M 0x59 2
+    pub row_sharps : a ≤ 7 → b ≤ 1 → Found (KeySignature a b) (p + 2) 0 0 ≡ M 0x59 2
     unfolding kind_of value_ok kind_at meta_of key_of key_byte pick
-    row-sharps k m =
+    row_sharps k m =
         let ok-is : value_ok key_kind (a ∷ b ∷ []) ≡ true = simp (le-leb a 7 k, le-leb b 1 m) in
-        rw (le-leb a 7 k) at (row_ok s 0x59 p 2 (a ∷ b ∷ []) key_kind h key-data refl ok-is)
+        rw (le-leb a 7 k) at (row_ok s 0x59 p 2 (a ∷ b ∷ []) key_kind h key_data refl ok-is)
 
-    pub row-flats : 249 ≤ a → a < 256 → b ≤ 1 → Found (KeySignature a b) (p + 2) 0 0 ≡ M 0x59 2
+    pub row_flats : 249 ≤ a → a < 256 → b ≤ 1 → Found (KeySignature a b) (p + 2) 0 0 ≡ M 0x59 2
     unfolding kind_of value_ok kind_at meta_of key_of key_byte pick
-    row-flats k f m =
+    row_flats k f m =
         let ok-is : value_ok key_kind (a ∷ b ∷ []) ≡ true = simp (lt-leb a 7 (omega arith), le-leb 249 a k, le-leb b 1 m) in
         let back : 256 - (256 - a) ≡ a = omega arith in
-        rw (lt-leb a 7 (omega arith), back) at (row_ok s 0x59 p 2 (a ∷ b ∷ []) key_kind h key-data refl ok-is)
+        rw (lt-leb a 7 (omega arith), back) at (row_ok s 0x59 p 2 (a ∷ b ∷ []) key_kind h key_data refl ok-is)
 
-    pub row-key-bad : 8 ≤ a → a < 249 → Refused 11 ≡ M 0x59 2
+    pub row_key_bad : 8 ≤ a → a < 249 → Refused 11 ≡ M 0x59 2
     unfolding kind_of value_ok
-    row-key-bad k m = row_bad s 0x59 p 2 (a ∷ b ∷ []) key_kind h key-data refl (simp (lt-leb a 7 k, lt-leb 249 a m))
+    row_key_bad k m = row_bad s 0x59 p 2 (a ∷ b ∷ []) key_kind h key_data refl (simp (lt-leb a 7 k, lt-leb 249 a m))
 
-    pub row-minor-bad : 1 < b → Refused 11 ≡ M 0x59 2
+    pub row_minor_bad : 1 < b → Refused 11 ≡ M 0x59 2
     unfolding kind_of value_ok
-    row-minor-bad k = row_bad s 0x59 p 2 (a ∷ b ∷ []) key_kind h key-data refl (rw (lt-leb b 1 k) (and_false (leb a 7 || leb 249 a)))
+    row_minor_bad k = row_bad s 0x59 p 2 (a ∷ b ∷ []) key_kind h key_data refl (rw (lt-leb b 1 k) (and_false (leb a 7 || leb 249 a)))
 
   -- ---- the rows with n data bytes, which stand from the place p on
 
@@ -155,17 +155,17 @@ module _ (s : List ℕ) (p : ℕ) where
     unfolding kind_of value_ok kind_at meta_of
     row_end_lem e = row_ok s t p n (take n (drop p s)) end_kind fit refl (ap kind_of e) refl
 
-    pub row-text : 1 ≤ t → t ≤ 7 → Found (Text t p n) (p + n) 0 0 ≡ M t n
+    pub row_text : 1 ≤ t → t ≤ 7 → Found (Text t p n) (p + n) 0 0 ≡ M t n
     unfolding value_ok kind_at meta_of
-    row-text h g = ap₂ (λ x y. Found (Text t x y) (p + n) 0 0) start size ∙ row_ok s t p n (take n (drop p s)) text_kind fit refl (text_kind_lem t h g) refl
+    row_text h g = ap₂ (λ x y. Found (Text t x y) (p + n) 0 0) start size ∙ row_ok s t p n (take n (drop p s)) text_kind fit refl (text_kind_lem t h g) refl
 
-    pub row-specific : t ≡ 0x7f → Found (SequencerSpecific p n) (p + n) 0 0 ≡ M t n
+    pub row_specific : t ≡ 0x7f → Found (SequencerSpecific p n) (p + n) 0 0 ≡ M t n
     unfolding kind_of value_ok kind_at meta_of
-    row-specific e = ap₂ (λ x y. Found (SequencerSpecific x y) (p + n) 0 0) start size ∙ row_ok s t p n (take n (drop p s)) specific_kind fit refl (ap kind_of e) refl
+    row_specific e = ap₂ (λ x y. Found (SequencerSpecific x y) (p + n) 0 0) start size ∙ row_ok s t p n (take n (drop p s)) specific_kind fit refl (ap kind_of e) refl
 
-    pub row-unknown : kind_of t ≡ unknown_kind → Found (UnknownMeta t p n) (p + n) 0 0 ≡ M t n
+    pub row_unknown : kind_of t ≡ unknown_kind → Found (UnknownMeta t p n) (p + n) 0 0 ≡ M t n
     unfolding value_ok kind_at meta_of
-    row-unknown e = ap₂ (λ x y. Found (UnknownMeta t x y) (p + n) 0 0) start size ∙ row_ok s t p n (take n (drop p s)) unknown_kind fit refl e refl
+    row_unknown e = ap₂ (λ x y. Found (UnknownMeta t x y) (p + n) 0 0) start size ∙ row_ok s t p n (take n (drop p s)) unknown_kind fit refl e refl
 
 -- a type of a fixed length has that length
 pub sized : (t u n k : ℕ) → t ≡ u → length_ok (kind_of u) n ≡ eqb n k → length_ok (kind_of t) n ≡ true → n ≡ k

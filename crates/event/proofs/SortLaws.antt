@@ -78,20 +78,20 @@ module _ (b : ℕ) where
   -- ---- a channel event of the status b, from its data bytes l on
 
   module _ (l : List ℕ) where
-    pub channel-one : sort_of b ≡ 5 → check (is_channel b) 8 0 (channel_data b l) ≡ one_data b l
+    pub channel_one : sort_of b ≡ 5 → check (is_channel b) 8 0 (channel_data b l) ≡ one_data b l
     unfolding check channel_data pick
-    channel-one e =
+    channel_one e =
         let (lo, hi) : (192 ≤ b) × (b < 224) = sort_cases b (omega arith) (omega arith) (omega arith) (omega arith) (omega arith) (omega arith) (omega arith) in
         simp (channel_is b (omega arith), one_yes b lo hi)
 
-    pub channel-two : sort_of b ≡ 6 → check (is_channel b) 8 0 (channel_data b l) ≡ two_data b l
+    pub channel_two : sort_of b ≡ 6 → check (is_channel b) 8 0 (channel_data b l) ≡ two_data b l
     unfolding check channel_data pick
-    channel-two e =
+    channel_two e =
         sort_cases b (λ f h. absurd (omega arith)) (λ f lo hi o. simp (channel_is b (lo, hi), o)) (λ f lo hi. absurd (omega arith))
         (λ f h. absurd (omega arith)) (λ f h. absurd (omega arith)) (λ f h. absurd (omega arith)) (λ f o. absurd (omega arith))
 
-    pub channel-none : (sort_of b ≡ 5 → ⊥) → (sort_of b ≡ 6 → ⊥) → check (is_channel b) 8 0 (channel_data b l) ≡ refused 8 0
+    pub channel_none : (sort_of b ≡ 5 → ⊥) → (sort_of b ≡ 6 → ⊥) → check (is_channel b) 8 0 (channel_data b l) ≡ refused 8 0
     unfolding check
-    channel-none n1 n2 =
+    channel_none n1 n2 =
         sort_cases b (λ f h. rw (channel_low b h)) (λ f lo hi o. absurd (n2 f)) (λ f lo hi. absurd (n1 f)) (λ f h. rw (channel_high b (omega arith)))
         (λ f h. rw (channel_high b (omega arith))) (λ f h. rw (channel_high b (omega arith))) (λ f o. rw (channel_high b o.high))

@@ -75,17 +75,17 @@ module _ (s : List ℕ) (f at : ℕ) (h : at < length s) where
   meta_bad k z low q = simp (there, le-leb b 127 low, q)
 
   module _ (n p : ℕ) (low : b ≤ 127) (q : read_vlq (drop (at + 1) s) ≡ ok n (drop p s)) where
-    pub meta-wrong : length_ok (kind_of b) n ≡ false → Refused 10 ≡ frame_step (length s) (read_meta (drop at s))
+    pub meta_wrong : length_ok (kind_of b) n ≡ false → Refused 10 ≡ frame_step (length s) (read_meta (drop at s))
     unfolding read_meta read_meta_of check and_then frame_step
-    meta-wrong e = simp (there, le-leb b 127 low, q, e)
+    meta_wrong e = simp (there, le-leb b 127 low, q, e)
 
-    pub meta-right : length_ok (kind_of b) n ≡ true → read_meta (drop at s) ≡ meta_data b n (drop p s)
+    pub meta_right : length_ok (kind_of b) n ≡ true → read_meta (drop at s) ≡ meta_data b n (drop p s)
     unfolding read_meta read_meta_of check and_then
-    meta-right e = simp (there, le-leb b 127 low, q, e)
+    meta_right e = simp (there, le-leb b 127 low, q, e)
 
-    pub meta-short : length_ok (kind_of b) n ≡ true → length s - p < n → Refused 6 ≡ frame_step (length s) (read_meta (drop at s))
+    pub meta_short : length_ok (kind_of b) n ≡ true → length s - p < n → Refused 6 ≡ frame_step (length s) (read_meta (drop at s))
     unfolding meta_data and_then frame_step
-    meta-short e few = simp (meta-right e, data_short s p n few)
+    meta_short e few = simp (meta_right e, data_short s p n few)
 
 pub channel_low : (f : ℕ) → f < 128 → is_channel f ≡ false
 unfolding is_channel

@@ -69,27 +69,27 @@ module _ (s : List ℕ) (prev f at : ℕ) where
   event_bad k z q = simp q
 
   module _ (v p : ℕ) (q : read_vlq (drop at s) ≡ ok v (drop p s)) where
-    pub event-over : later_of prev v ≡ Over → Stop 7 ≡ event_step (length s) (event_padding (drop at s)) (read_event prev f (drop at s))
+    pub event_over : later_of prev v ≡ Over → Stop 7 ≡ event_step (length s) (event_padding (drop at s)) (read_event prev f (drop at s))
     unfolding read_event and_then event_step check
-    event-over e = simp (q, later_over prev v e)
+    event_over e = simp (q, later_over prev v e)
 
-    event-timed : leb (prev + v) 4294967295 ≡ true → read_event prev f (drop at s) ≡ Timed (prev + v) (read_frame f (drop p s))
+    event_timed : leb (prev + v) 4294967295 ≡ true → read_event prev f (drop at s) ≡ Timed (prev + v) (read_frame f (drop p s))
     unfolding read_event and_then check
-    event-timed e = simp (q, e)
+    event_timed e = simp (q, e)
 
-    pub event-refused : (u : Time) (k : ℕ) → later_of prev v ≡ At u → padded (frame_padding (drop p s)) (frame_step (length s) (read_frame f (drop p s))) ≡ Refused k
+    pub event_refused : (u : Time) (k : ℕ) → later_of prev v ≡ At u → padded (frame_padding (drop p s)) (frame_step (length s) (read_frame f (drop p s))) ≡ Refused k
         → Stop k ≡ event_step (length s) (event_padding (drop at s)) (read_event prev f (drop at s))
-    event-refused u k e h = let (b, w) = later_at prev v u e in rw (event-timed b) (stopped (length s) (prev + v) _ _ (read_frame f (drop p s)) k h)
+    event_refused u k e h = let (b, w) = later_at prev v u e in rw (event_timed b) (stopped (length s) (prev + v) _ _ (read_frame f (drop p s)) k h)
 
-    pub event-found : (u : Time) (e : EventKind) (n st x y z : ℕ) → z ≡ x + y → vlq_padding (drop at s) ≡ x → Bytes (drop p s) → later_of prev v ≡ At u
+    pub event_found : (u : Time) (e : EventKind) (n st x y z : ℕ) → z ≡ x + y → vlq_padding (drop at s) ≡ x → Bytes (drop p s) → later_of prev v ≡ At u
         → padded (frame_padding (drop p s)) (frame_step (length s) (read_frame f (drop p s))) ≡ Found e n st y
         → Read u e n st z ≡ event_step (length s) (event_padding (drop at s)) (read_event prev f (drop at s))
     unfolding event_padding rest_of
-    event-found u e n st x y z ez ex bs l h =
+    event_found u e n st x y z ez ex bs l h =
         let (b, w) = later_at prev v u l in
         let sum : event_padding (drop at s) ≡ x + frame_padding (drop p s) = ap₂ (λ a c. a + frame_padding (rest_of c)) ex q in
         ap (Read u e n st) ez ∙ ap (λ t. Read t e n st (x + y)) (sym w) ∙ found (length s) (prev + v) f x (frame_padding (drop p s)) y (drop p s) _ e n st bs refl h
-        ∙ ap₂ (event_step (length s)) (sym sum) (sym (event-timed b))
+        ∙ ap₂ (event_step (length s)) (sym sum) (sym (event_timed b))
 
 -- ---- End_track to the code and to the reader
 

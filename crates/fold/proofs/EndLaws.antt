@@ -133,16 +133,16 @@ module _ {f : List ℕ} {n : ℕ} {all : List (List Placed)} {old : List ℕ} {f
 
 pub greatest_more : (ts : List ℕ) (i : ℕ) → i < length ts → greatest (take (i + 1) ts) ≡ max (greatest (take i ts)) (get_or ts i 0)
 unfolding greatest
-greatest_more ts i h = rw (add-one i, take-suc ts i 0 h) (greatest-last (take i ts) (get_or ts i 0))
+greatest_more ts i h = rw (add-one i, take-suc ts i 0 h) (greatest_last (take i ts) (get_or ts i 0))
   where
-    greatest-last : (xs : List ℕ) (y : ℕ) → greatest (xs ++ (y ∷ [])) ≡ max (greatest xs) y
-    greatest-last [] y = omega arith
-    greatest-last (x ∷ xs) y = omega (arith, greatest-last xs y)
+    greatest_last : (xs : List ℕ) (y : ℕ) → greatest (xs ++ (y ∷ [])) ≡ max (greatest xs) y
+    greatest_last [] y = omega arith
+    greatest_last (x ∷ xs) y = omega (arith, greatest_last xs y)
 
 pub clear_more : (l : List ℕ) (i : ℕ) → i < length l → set (replicate i 0 ++ drop i l) i 0 ≡ replicate (i + 1) 0 ++ drop (i + 1) l
 clear_more l i h =
-    rw (drop-cons l i 0 h, set_at (replicate i 0) (get_or l i 0) (drop (suc i) l) 0 i (length-replicate i 0), add-one i) (zeros-last i (drop (suc i) l))
+    rw (drop-cons l i 0 h, set_at (replicate i 0) (get_or l i 0) (drop (suc i) l) 0 i (length-replicate i 0), add-one i) (zeros_last i (drop (suc i) l))
   where
-    zeros-last : (k : ℕ) (r : List ℕ) → replicate k 0 ++ (0 ∷ r) ≡ replicate (suc k) 0 ++ r
-    zeros-last zero r = refl
-    zeros-last (suc k) r = ap (λ z. 0 ∷ z) (zeros-last k r)
+    zeros_last : (k : ℕ) (r : List ℕ) → replicate k 0 ++ (0 ∷ r) ≡ replicate (suc k) 0 ++ r
+    zeros_last zero r = refl
+    zeros_last (suc k) r = ap (λ z. 0 ∷ z) (zeros_last k r)

@@ -232,12 +232,12 @@ module _ {f : List ℕ} {n : ℕ} {all : List (List Placed)} {old : List ℕ} {f
         ∙ ap₂ (λ x y. head_bytes short force (x - last) k ++ data_of (kind_from f k) ++ events_in short x y (folded_track (tracks_of Left))) (sym (opened i h l).time_is) w.status
 
     -- the delta as the code has it
-    item-written : (z : ℕ) (new : List ℕ) (next' : ℕ) → z ≡ get_or ts i 0 - last → Written out next (head_bytes short force z k ++ data_of (kind_from f k)) new next' → Written out next Item new next'
-    item-written z new next' e wr = subst (λ d. Written out next (head_bytes short force d k ++ data_of (kind_from f k)) new next') e wr
+    item_written : (z : ℕ) (new : List ℕ) (next' : ℕ) → z ≡ get_or ts i 0 - last → Written out next (head_bytes short force z k ++ data_of (kind_from f k)) new next' → Written out next Item new next'
+    item_written z new next' e wr = subst (λ d. Written out next (head_bytes short force d k ++ data_of (kind_from f k)) new next') e wr
 
     pub going_more : (z : ℕ) (new : List ℕ) (next' : ℕ) → z ≡ get_or ts i 0 - last → Written out next (head_bytes short force z k ++ data_of (kind_from f k)) new next' → (next < next') × (next' ≤ from + length whole)
     going_more z new next' e written =
-        let wr = item-written z new next' e written in
+        let wr = item_written z new next' e written in
         let size = item_size f last force E (folded_track (tracks_of Left)) k q law may w.shape w.kind in
         let t : E.time ≡ get_or ts i 0 = sym (opened i h l).time_is in
         let one : 1 ≤ length Item = subst (λ z. 1 ≤ length (head_bytes short force (z - last) k ++ data_of (kind_from f k))) t size in (
@@ -249,7 +249,7 @@ module _ {f : List ℕ} {n : ℕ} {all : List (List Placed)} {old : List ℕ} {f
         → (z : ℕ) (new : List ℕ) (next' : ℕ) → z ≡ get_or ts i 0 - last → Written out next (head_bytes short force z k ++ data_of (kind_from f k)) new next'
         → Going f n all old from whole new next' (get_or ts i 0) st (set ps i row.place) (set ts i row.time) (set ss i row.status) ps₀ ts₀ ss₀
     going_on row a b c e z new next' d written =
-        let wr = item-written z new next' d written in
+        let wr = item_written z new next' d written in
         let o = opened i h l in
         let t : E.time ≡ get_or ts i 0 = sym o.time_is in
         let chain : Chain f q (get_or ts i 0) st o.rest =

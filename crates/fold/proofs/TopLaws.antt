@@ -105,14 +105,14 @@ module _ (f : List ℕ) (bs : Bytes f) {v : Answer} (judged : v ≡ verdict (rea
     abbrev X : Outcome Piece
     X = fold_outcome (rows_lent ps ts ss) f
 
-    pub format-two : 1 < a → r ≡ refusal 32 8 → Promised X f old ps ts ss r old ps ts ss
+    pub format_two_lem : 1 < a → r ≡ refusal 32 8 → Promised X f old ps ts ss r old ps ts ss
     unfolding check
-    format-two h e = promise_refused X f old ps ts ss 32 8 r (outcome_is (rows_lent ps ts ss) ∙ rw (lt-leb a 1 h) refl) e
+    format_two_lem h e = promise_refused X f old ps ts ss 32 8 r (outcome_is (rows_lent ps ts ss) ∙ rw (lt-leb a 1 h) refl) e
 
     module _ (one : a ≤ 1) where
-      pub many-tracks : 64 < b → r ≡ refusal 31 10 → Promised X f old ps ts ss r old ps ts ss
+      pub many_tracks : 64 < b → r ≡ refusal 31 10 → Promised X f old ps ts ss r old ps ts ss
       unfolding check
-      many-tracks h e = promise_refused X f old ps ts ss 31 10 r (outcome_is (rows_lent ps ts ss) ∙ rw (le-leb a 1 one, lt-leb b 64 h) refl) e
+      many_tracks h e = promise_refused X f old ps ts ss 31 10 r (outcome_is (rows_lent ps ts ss) ∙ rw (le-leb a 1 one, lt-leb b 64 h) refl) e
 
       module _ (few : b ≤ 64) where
         pub few_rows : rows_lent ps ts ss < b → r ≡ refusal 37 10 → Promised X f old ps ts ss r old ps ts ss
@@ -125,9 +125,9 @@ module _ (f : List ℕ) (bs : Bytes f) {v : Answer} (judged : v ≡ verdict (rea
           unfolding check
           looked = outcome_is (rows_lent ps ts ss) ∙ rw (le-leb a 1 one, le-leb b 64 few, le-leb b (rows_lent ps ts ss) rows) refl
 
-          pub prefix-found : r ≡ look_answer (several_free b (placed_from f b n) fine) → (r.number ≡ 0 → ⊥) → Promised X f old ps ts ss r old ps ts ss
+          pub prefix_found : r ≡ look_answer (several_free b (placed_from f b n) fine) → (r.number ≡ 0 → ⊥) → Promised X f old ps ts ss r old ps ts ss
           unfolding look_answer
-          prefix-found e h = found (free_several b (placed_from f b n))
+          prefix_found e h = found (free_several b (placed_from f b n))
             where
               found : Free (λ A. several_free {A = A} b (placed_from f b n)) → Promised X f old ps ts ss r old ps ts ss
               found (stopped p g) = promise_refused X f old ps ts ss 33 p r (looked ∙ g Piece Z) (e ∙ ap look_answer (g ℕ fine))
@@ -141,9 +141,9 @@ module _ (f : List ℕ) (bs : Bytes f) {v : Answer} (judged : v ≡ verdict (rea
               found (stopped p g) = let z = ap (λ (y : Answer). y.number) (sym (e ∙ ap look_answer (g ℕ fine))) ∙ h in absurd (omega (arith, z))
               found (through g) = looked ∙ g Piece Z
 
-          file-is : (m : ℕ) → m ≡ bits (division_from d) → file_in m (folded_track (value_or [] (R f b n))) ≡ file_of short (folded_piece P)
+          file_is : (m : ℕ) → m ≡ bits (division_from d) → file_in m (folded_track (value_or [] (R f b n))) ≡ file_of short (folded_piece P)
           unfolding file_of lay_piece spelling folded_piece lay_tracks lay_chunks spell_tracks value_or
-          file-is m e =
+          file_is m e =
               let same = headed f a b d n bs head there in
               let division : division_of m ≡ P.division = ap division_of e ∙ division_back (division_from d) lawful_division ∙ sym same.division in
               let tracks : value_or [] (R f b n) ≡ P.tracks = ap (value_or []) there.tracks in
@@ -151,19 +151,19 @@ module _ (f : List ℕ) (bs : Bytes f) {v : Answer} (judged : v ≡ verdict (rea
               ap₂ (λ x y. lay_header 0 1 x [] (track_in short (folded_track y))) division tracks
               ∙ ap (lay_header 0 1 P.division []) (sym (append-nil (track ++ []) ∙ append-nil track))
 
-          pub promise-kept : (w : Answer) → w ≡ look_answer (several_free b (placed_from f b n) fine) → w.number ≡ 0 → (m : ℕ) → m ≡ bits (division_from d) → (new ps' ts' ss' : List ℕ)
+          pub promise_kept : (w : Answer) → w ≡ look_answer (several_free b (placed_from f b n) fine) → w.number ≡ 0 → (m : ℕ) → m ≡ bits (division_from d) → (new ps' ts' ss' : List ℕ)
               → r ≡ write_answer (length old) (length (file_in m (folded_track (value_or [] (R f b n)))))
               → new ≡ write_leaves (file_in m (folded_track (value_or [] (R f b n)))) old
               → ps' ≡ ends_shown place_shown (placed_from f b n) ++ drop b ps → ts' ≡ ends_shown time_shown (placed_from f b n) ++ drop b ts → ss' ≡ ends_shown status_shown (placed_from f b n) ++ drop b ss
               → Promised X f old ps ts ss r new ps' ts' ss'
           unfolding short_answer short_leaves rows_leave value_or Readable
-          promise-kept w e h m q new ps' ts' ss' r1 r2 r3 r4 r5 =
+          promise_kept w e h m q new ps' ts' ss' r1 r2 r3 r4 r5 =
               let same : tracks_of (placed_from f b n) ≡ value_or [] (R f b n) = tracks_placed f b n bs tracks_readable in
               let size : length (placed_from f b n) ≡ b = sym (length-map (placed_from f b n) events_of) ∙ ap length same ∙ ap (λ z. length (value_or [] z)) there.tracks ∙ there.count in
               let rows_are : (g : Placed → ℕ) (l : List ℕ) → ends_shown g (placed_from f b n) ++ drop b l ≡ ends_shown g (placed_file f) ++ drop (length (placed_file f)) l =
               λ g l. ap (λ z. ends_shown g (placed_from f b n) ++ drop z l) (sym size) ∙ ap (λ z. ends_shown g z ++ drop (length z) l) (sym placed_are)
               in
               rw (none_found w e h) (
-                r1 ∙ ap (λ z. write_answer (length old) (length z)) (file-is m q),
-                (r2 ∙ ap (λ z. write_leaves z old) (file-is m q), (r3 ∙ rows_are place_shown ps, (r4 ∙ rows_are time_shown ts, r5 ∙ rows_are status_shown ss))),
+                r1 ∙ ap (λ z. write_answer (length old) (length z)) (file_is m q),
+                (r2 ∙ ap (λ z. write_leaves z old) (file_is m q), (r3 ∙ rows_are place_shown ps, (r4 ∙ rows_are time_shown ts, r5 ∙ rows_are status_shown ss))),
               )

@@ -142,11 +142,11 @@ outcome_good rows f z t e k =
     let g1 = (check_ok _ 32 8 _ z t g).1 in
     let g2 = (check_ok _ 31 10 _ z t g1).1 in
     let g3 = (check_ok _ 37 10 _ z t g2).1 in
-    let (y, same) = several-ok (length p.tracks) (placed_file f) (folded_piece p) r z t g3 in
+    let (y, same) = several_ok (length p.tracks) (placed_file f) (folded_piece p) r z t g3 in
     k p (h ∙ ap (ok p) same) y)
   where
-    several-ok : (n : ℕ) (ts : List (List Placed)) (p : Piece) (r : List ℕ) (z : Piece) (t : List ℕ) → several_free n ts (ok p r) ≡ ok z t → (z ≡ p) × (r ≡ t)
-    several-ok n ts p r z t e = cases (free_several n ts)
+    several_ok : (n : ℕ) (ts : List (List Placed)) (p : Piece) (r : List ℕ) (z : Piece) (t : List ℕ) → several_free n ts (ok p r) ≡ ok z t → (z ≡ p) × (r ≡ t)
+    several_ok n ts p r z t e = cases (free_several n ts)
       where
         cases : Free (λ A. several_free {A = A} n ts) → (z ≡ p) × (r ≡ t)
         cases (stopped q h) = not_ok (sym (h Piece (ok p r)) ∙ e)

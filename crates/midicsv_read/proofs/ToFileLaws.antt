@@ -61,9 +61,9 @@ module _ (text : List ℕ) (manner : ℕ) (old : List ℕ) (h : manner ≤ 1) (k
       decides (refusal n line) old (rw x refl) (rw x refl)
 
   module _ (n : ℕ) (e : Whole n ≡ passed_as M (piece_of_text text)) where
-    pub long-file : file_limit < n → Right text manner old (refusal 29 0) old
+    pub long_file : file_limit < n → Right text manner old (refusal 29 0) old
     unfolding piece_answer piece_leaves write_answer write_leaves pick
-    long-file b =
+    long_file b =
         whole_is M (piece_of_text text) n e (λ p r x size.
         let t = lt-leb n file_limit b in
         decides (refusal 29 0) old (rw (x, ← size, t) refl) (rw (x, ← size, t) refl))
@@ -76,9 +76,9 @@ module _ (text : List ℕ) (manner : ℕ) (old : List ℕ) (h : manner ≤ 1) (k
         let u = lt-leb n (length old) g in
         decides (room_needed n) old (rw (x, ← size, t, u) refl) (rw (x, ← size, t, u) refl))
 
-    pub written-file : (new : List ℕ) → n ≤ file_limit → n ≤ length old → Leaves M (piece_of_text text) old new → Right text manner old (success n) new
+    pub written_file : (new : List ℕ) → n ≤ file_limit → n ≤ length old → Leaves M (piece_of_text text) old new → Right text manner old (success n) new
     unfolding piece_answer piece_leaves write_answer write_leaves pick Leaves
-    written-file new b g w =
+    written_file new b g w =
         whole_is M (piece_of_text text) n e (λ p r x size.
         let t = le-leb n file_limit b in
         let u = le-leb n (length old) g in

@@ -92,17 +92,17 @@ module _ {A : Type 0} (g : Field → Result A) (r : List ℕ) where
 
   -- and then k with the value
   module _ {B : Type 0} (k : A → List ℕ → Outcome B) where
-    then-took : {X : Type 0} (b : B) (p : List ℕ) → and_then (field_after r) (λ f s. and_then (fitting (g f) s) k) ≡ ok b p
+    then_took : {X : Type 0} (b : B) (p : List ℕ) → and_then (field_after r) (λ f s. and_then (fitting (g f) s) k) ≡ ok b p
         → ((f : Field) (a : A) (q : List ℕ) → field_after r ≡ ok f q → g f ≡ good a → k a q ≡ ok b p → X) → X
-    then-took b p e h =
+    then_took b p e h =
         and_then_ok (field_after r) _ b p e (λ f s z w.
         and_then_ok (fitting (g f) s) k b p w (λ a q y v.
         let (x, u) = fitting_ok (g f) s a q y in
         h f a q (rw u at z) x v))
 
-    then-back : (a : A) (q : List ℕ) (f : Field) → field_after r ≡ ok f q → g f ≡ good a → and_then (field_after r) (λ f s. and_then (fitting (g f) s) k) ≡ k a q
+    then_back : (a : A) (q : List ℕ) (f : Field) → field_after r ≡ ok f q → g f ≡ good a → and_then (field_after r) (λ f s. and_then (fitting (g f) s) k) ≡ k a q
     unfolding fitting
-    then-back a q f e z = and_then_eq _ e ∙ and_then_eq k (ap (λ m. fitting m q) z)
+    then_back a q f e z = and_then_eq _ e ∙ and_then_eq k (ap (λ m. fitting m q) z)
 
 -- ---- the columns
 
@@ -196,7 +196,7 @@ last_took one_text r d q e =
 last_took sized r d q e =
     and_then_ok _ _ d q e (λ s p z w.
     let (x, y) = end_took s p d q w in
-    then-took size_of r data_after s p z (λ f n v ef en ed.
+    then_took size_of r data_after s p z (λ f n v ef en ed.
     let (gs, rs, len, bytes) = data_took n v s [] (cc) in (
       f ∷ gs,
       (v, ef, rs),
@@ -217,7 +217,7 @@ last_back sized (f ∷ gs) r d m x (q, ef, w) e h =
     next_good (size_of f) _ x (test_good _ 24 _ x h).1 (λ n en z.
     let k = eqb-true (suc (length gs)) (1 + n) (test_good _ 24 m x z).0 in
     let len : length gs ≡ n = omega arith in
-    and_then_eq _ (then-back size_of r data_after n q f ef en ∙ (rw len at (data_back gs q d [] w e))))
+    and_then_eq _ (then_back size_of r data_after n q f ef en ∙ (rw len at (data_back gs q d [] w e))))
 
 -- ---- the values, and the record
 
@@ -251,7 +251,7 @@ unfolding record_in_turn column_after record_after named_after record_of
 record_took l x q e =
     and_then_ok (column_after (range 0 65535) (44 ∷ l)) _ x q e (λ track s z w.
     and_then_ok (column_after (range 0 4294967295) s) _ x q w (λ time p y u.
-    then-took name_from p (named_after track time) x q u (λ c n i ec en v.
+    then_took name_from p (named_after track time) x q u (λ c n i ec en v.
     and_then_ok (values_after n i) _ x q v (λ vs j ev k.
     let (a, ea, ra) = field_took (read_column (range 0 65535)) (44 ∷ l) track s z in
     let (b, eb, rb) = field_took (read_column (range 0 4294967295)) s time p y in
@@ -270,7 +270,7 @@ record_back (a ∷ b ∷ c ∷ fs) l x (s, ea, (p, eb, (i, ec, w))) e =
     next_good (read_columns (shape n).columns (shape n).tail fs) _ x z (λ v cols k.
     and_then_eq _ (field_back (read_column (range 0 65535)) (44 ∷ l) track s a ea ra)
     ∙ and_then_eq _ (field_back (read_column (range 0 4294967295)) s time p b eb rb)
-    ∙ then-back name_from p (named_after track time) n i c ec en
+    ∙ then_back name_from p (named_after track time) n i c ec en
     ∙ and_then_eq _ (values_back n i v fs _ x w cols h)
     ∙ ap (λ m. fitting m []) k))))
 

@@ -48,15 +48,15 @@ module _ (l : List ℕ) (count n : ℕ) (a : Fields l count) where
     length_field : get_or (later_in l) (length (columns_at n)) (num 0) ≡ x
     length_field = get_or-drop 3 (fields_in l) (length (columns_at n)) (num 0) ∙ sym f
 
-    pub size-off : bad 25 ≡ size_of x → bad 25 ≡ size_in n (later_in l)
+    pub size_off : bad 25 ≡ size_of x → bad 25 ≡ size_in n (later_in l)
     unfolding size_in counted test next
-    size-off z =
+    size_off z =
         let k = later_count in
         rw (e, lt-ltb (length (columns_at n)) (length (later_in l)) (omega arith), length_field, ← z) refl
 
-    pub size-sized : (v : ℕ) → good v ≡ size_of x → test (eqb count (3 + length (columns_at n) + 1 + v)) 24 (good 0) ≡ size_in n (later_in l)
+    pub size_sized : (v : ℕ) → good v ≡ size_of x → test (eqb count (3 + length (columns_at n) + 1 + v)) 24 (good 0) ≡ size_in n (later_in l)
     unfolding size_in counted test next
-    size-sized v z =
+    size_sized v z =
         let k = later_count in
         rw (e, lt-ltb (length (columns_at n)) (length (later_in l)) (omega arith), length_field, ← z)
         (same_test (good 0) count (3 + length (columns_at n) + 1 + v) (length (later_in l)) (length (columns_at n) + 1 + v) (λ q. omega arith) (λ q. omega arith))

@@ -41,35 +41,35 @@ module _ (l w : List ℕ) (start : ℕ) where
 
   module _ (i k : ℕ) (p : TextState) (a : Agrees l w start i k p) where
     -- at the line's end
-    pub agrees-past : length l ≤ i → eqb k (length w) ≡ same_bytes (unquoted (drop start l) plain) w
-    agrees-past h = word_end w k a.within ∙ rw (← a.rest, unquoted_past l i (seen_as p) h) refl
+    pub agrees_past : length l ≤ i → eqb k (length w) ≡ same_bytes (unquoted (drop start l) plain) w
+    agrees_past h = word_end w k a.within ∙ rw (← a.rest, unquoted_past l i (seen_as p) h) refl
 
     module _ (h : i < length l) (r : TextStep) (g : Gives p (get_or l i 0) r) where
       -- what is left after one more character
       left : same_bytes (step_as r (drop (i + 1) l)) (drop k w) ≡ same_bytes (unquoted (drop start l) plain) w
       left = ap (λ x. same_bytes x (drop k w)) (sym (unquoted_on l i p r h g)) ∙ a.rest
 
-      pub agrees-nothing : (q : TextState) → r ≡ Nothing q → SmallStep r → Agrees l w start (i + 1) k q
+      pub agrees_nothing : (q : TextState) → r ≡ Nothing q → SmallStep r → Agrees l w start (i + 1) k q
       unfolding step_as SmallStep
-      agrees-nothing q e s = record { small = subst SmallStep e s; within = a.within; rest = ap (λ x. same_bytes (step_as x (drop (i + 1) l)) (drop k w)) (sym e) ∙ left }
+      agrees_nothing q e s = record { small = subst SmallStep e s; within = a.within; rest = ap (λ x. same_bytes (step_as x (drop (i + 1) l)) (drop k w)) (sym e) ∙ left }
 
       byte_left : (b : ℕ) (q : TextState) → r ≡ Byte b q → same_bytes (b ∷ unquoted (drop (i + 1) l) (seen_as q)) (drop k w) ≡ same_bytes (unquoted (drop start l) plain) w
       unfolding step_as
       byte_left b q e = ap (λ x. same_bytes (step_as x (drop (i + 1) l)) (drop k w)) (sym e) ∙ left
 
-      pub agrees-byte : (b : ℕ) (q : TextState) → r ≡ Byte b q → SmallStep r → k < length w → b ≡ get_or w k 0 → Agrees l w start (i + 1) (k + 1) q
+      pub agrees_byte : (b : ℕ) (q : TextState) → r ≡ Byte b q → SmallStep r → k < length w → b ≡ get_or w k 0 → Agrees l w start (i + 1) (k + 1) q
       unfolding SmallStep same_bytes
-      agrees-byte b q e s f same =
+      agrees_byte b q e s f same =
           record { small = subst SmallStep e s; within = omega arith; rest = rw (add-one k) (rw (drop-cons w k 0 f, eq-eqb b (get_or w k 0) same) at (byte_left b q e)) }
 
       pub differs : (b : ℕ) (q : TextState) → r ≡ Byte b q → k < length w → (b ≡ get_or w k 0 → ⊥) → false ≡ same_bytes (unquoted (drop start l) plain) w
       unfolding same_bytes
       differs b q e f n = rw (drop-cons w k 0 f, ne_eqb b (get_or w k 0) n) at (byte_left b q e)
 
-      pub word-short : (b : ℕ) (q : TextState) → r ≡ Byte b q → length w ≤ k → false ≡ same_bytes (unquoted (drop start l) plain) w
+      pub word_short : (b : ℕ) (q : TextState) → r ≡ Byte b q → length w ≤ k → false ≡ same_bytes (unquoted (drop start l) plain) w
       unfolding same_bytes
-      word-short b q e f = rw (drop_of_length-le w f) at (byte_left b q e)
+      word_short b q e f = rw (drop_of_length-le w f) at (byte_left b q e)
 
-      pub agrees-closed : r ≡ Closed → eqb k (length w) ≡ same_bytes (unquoted (drop start l) plain) w
+      pub agrees_closed : r ≡ Closed → eqb k (length w) ≡ same_bytes (unquoted (drop start l) plain) w
       unfolding step_as
-      agrees-closed e = word_end w k a.within ∙ ap (λ x. same_bytes (step_as x (drop (i + 1) l)) (drop k w)) (sym e) ∙ left
+      agrees_closed e = word_end w k a.within ∙ ap (λ x. same_bytes (step_as x (drop (i + 1) l)) (drop k w)) (sym e) ∙ left

@@ -88,21 +88,21 @@ module _ (l : List ℕ) (at : ℕ) (t : NumberEnd) (e : number_as l t ≡ read_n
   minus_broken q = (ap (λ m. and_then m (λ n r. finish (negative n) r)) (ap (number_as l) (sym q) ∙ e), bad_within l at)
 
   module _ (value end : ℕ) (q : t ≡ Value value end) (r : PartEnd) (c : Closes l end r) where
-    number-then : finish (num value) (drop end l) ≡ number_field (drop at l)
+    number_then : finish (num value) (drop end l) ≡ number_field (drop at l)
     unfolding number_as and_then number_field
-    number-then = ap (λ m. and_then m (λ n r. finish (num n) r)) (ap (number_as l) (sym q) ∙ e)
+    number_then = ap (λ m. and_then m (λ n r. finish (num n) r)) (ap (number_as l) (sym q) ∙ e)
 
-    minus-then : finish (negative value) (drop end l) ≡ minus_field (drop at l)
+    minus_then : finish (negative value) (drop end l) ≡ minus_field (drop at l)
     unfolding number_as and_then minus_field
-    minus-then = ap (λ m. and_then m (λ n r. finish (negative n) r)) (ap (number_as l) (sym q) ∙ e)
+    minus_then = ap (λ m. and_then m (λ n r. finish (negative n) r)) (ap (number_as l) (sym q) ∙ e)
 
-    pub number-open : r ≡ Nowhere → (field_as l BadField ≡ number_field (drop at l)) × Within l at BadField
+    pub number_open : r ≡ Nowhere → (field_as l BadField ≡ number_field (drop at l)) × Within l at BadField
     unfolding field_as closed_as
-    number-open n = (closed_as_lem (num value) l end r Nowhere n c ∙ number-then, bad_within l at)
+    number_open n = (closed_as_lem (num value) l end r Nowhere n c ∙ number_then, bad_within l at)
 
-    pub minus-open : r ≡ Nowhere → (field_as l BadField ≡ minus_field (drop at l)) × Within l at BadField
+    pub minus_open : r ≡ Nowhere → (field_as l BadField ≡ minus_field (drop at l)) × Within l at BadField
     unfolding field_as closed_as
-    minus-open n = (closed_as_lem (negative value) l end r Nowhere n c ∙ minus-then, bad_within l at)
+    minus_open n = (closed_as_lem (negative value) l end r Nowhere n c ∙ minus_then, bad_within l at)
 
     module _ (next : ℕ) (n : r ≡ At next) (u : NumberWithin l at t) (v : EndWithin l end r) where
       between : (at ≤ next) × (next ≤ length l)
@@ -113,19 +113,19 @@ module _ (l : List ℕ) (at : ℕ) (t : NumberEnd) (e : number_as l t ≡ read_n
 
       pub number_is : (field_as l (Number value next) ≡ number_field (drop at l)) × Within l at (Number value next)
       unfolding field_as closed_as Within
-      number_is = (closed_as_lem (num value) l end r (At next) n c ∙ number-then, between)
+      number_is = (closed_as_lem (num value) l end r (At next) n c ∙ number_then, between)
 
       -- "optional minus": −0 is the number 0
-      pub minus-zero : value ≡ 0 → (field_as l (Number 0 next) ≡ minus_field (drop at l)) × Within l at (Number 0 next)
+      pub minus_zero : value ≡ 0 → (field_as l (Number 0 next) ≡ minus_field (drop at l)) × Within l at (Number 0 next)
       unfolding field_as closed_as Within negative
-      minus-zero z =
+      minus_zero z =
           let s : num 0 ≡ negative value = ap negative (sym z) in
-          (ap (λ f. closed_as f l (At next)) s ∙ closed_as_lem (negative value) l end r (At next) n c ∙ minus-then, between)
+          (ap (λ f. closed_as f l (At next)) s ∙ closed_as_lem (negative value) l end r (At next) n c ∙ minus_then, between)
 
       pub minus_is : (value ≡ 0 → ⊥) → (field_as l (Minus value next) ≡ minus_field (drop at l)) × Within l at (Minus value next)
       unfolding field_as closed_as Within
       minus_is z =
-          (ap (λ f. closed_as f l (At next)) (below_zero value z) ∙ closed_as_lem (negative value) l end r (At next) n c ∙ minus-then, between)
+          (ap (λ f. closed_as f l (At next)) (below_zero value z) ∙ closed_as_lem (negative value) l end r (At next) n c ∙ minus_then, between)
 
 -- ---- names
 
@@ -159,16 +159,16 @@ module _ (l : List ℕ) (at p : ℕ) (k : Skipped l at p) where
         let low = k.low in
         (e ∙ ap field_of (sym (k.same ∙ drop-cons l p 0 h)), within_from l at q r (omega arith) w)
 
-    pub first-quote : get_or l p 0 ≡ 34 → (r : FieldStep) → field_as l r ≡ quoted_field (drop (p + 1) l) → Within l (p + 1) r
+    pub first_quote : get_or l p 0 ≡ 34 → (r : FieldStep) → field_as l r ≡ quoted_field (drop (p + 1) l) → Within l (p + 1) r
         → (field_as l r ≡ read_field (drop at l)) × Within l at r
     unfolding field_of quoted_field pick
-    first-quote t r e w = after r (p + 1) (omega arith) (e ∙ rw (add-one p, eq-eqb (get_or l p 0) 34 t)) w
+    first_quote t r e w = after r (p + 1) (omega arith) (e ∙ rw (add-one p, eq-eqb (get_or l p 0) 34 t)) w
 
     module _ (n1 : get_or l p 0 ≡ 34 → ⊥) where
-      pub first-minus : get_or l p 0 ≡ 45 → (r : FieldStep) → field_as l r ≡ minus_field (drop (p + 1) l) → Within l (p + 1) r
+      pub first_minus : get_or l p 0 ≡ 45 → (r : FieldStep) → field_as l r ≡ minus_field (drop (p + 1) l) → Within l (p + 1) r
           → (field_as l r ≡ read_field (drop at l)) × Within l at r
       unfolding field_of minus_field pick
-      first-minus t r e w = after r (p + 1) (omega arith) (e ∙ rw (add-one p, ne_eqb (get_or l p 0) 34 n1, eq-eqb (get_or l p 0) 45 t)) w
+      first_minus t r e w = after r (p + 1) (omega arith) (e ∙ rw (add-one p, ne_eqb (get_or l p 0) 34 n1, eq-eqb (get_or l p 0) 45 t)) w
 
       module _ (n2 : get_or l p 0 ≡ 45 → ⊥) where
         pub first_digit : is_digit (get_or l p 0) ≡ true → (r : FieldStep) → field_as l r ≡ number_field (drop p l) → Within l p r
@@ -177,10 +177,10 @@ module _ (l : List ℕ) (at p : ℕ) (k : Skipped l at p) where
         first_digit t r e w =
             after r p (omega arith) (e ∙ rw (drop-cons l p 0 h, ne_eqb (get_or l p 0) 34 n1, ne_eqb (get_or l p 0) 45 n2, t)) w
 
-        pub first-letter : is_digit (get_or l p 0) ≡ false → is_letter (get_or l p 0) ≡ true → (r : FieldStep) → field_as l r ≡ name_field (drop p l) → Within l p r
+        pub first_letter : is_digit (get_or l p 0) ≡ false → is_letter (get_or l p 0) ≡ true → (r : FieldStep) → field_as l r ≡ name_field (drop p l) → Within l p r
             → (field_as l r ≡ read_field (drop at l)) × Within l at r
         unfolding field_of name_field pick
-        first-letter n3 t r e w =
+        first_letter n3 t r e w =
             after r p (omega arith) (e ∙ rw (drop-cons l p 0 h, ne_eqb (get_or l p 0) 34 n1, ne_eqb (get_or l p 0) 45 n2, n3, t)) w
 
         pub first_other : is_digit (get_or l p 0) ≡ false → is_letter (get_or l p 0) ≡ false → (field_as l BadField ≡ read_field (drop at l)) × Within l at BadField

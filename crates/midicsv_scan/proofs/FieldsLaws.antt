@@ -92,9 +92,9 @@ module _ {l : List ℕ} {at n : ℕ} (b : Bytes l) (g : Counting l at n) where
   counting_bad r z e = no_field (rw z at e)
 
   module _ (r : PartEnd) (q : ℕ) (z : r ≡ At q) (e : FieldEnds l at r) (w : EndWithin l at r) where
-    pub counting-on : q < length l → Counting l (q + 1) (n + 1)
+    pub counting_on : q < length l → Counting l (q + 1) (n + 1)
     unfolding FieldEnds onward
-    counting-on h =
+    counting_on h =
         let (f, y) : FieldEnds l at (At q) = rw z at e in
         let (x, v) = end_place l at r q z w in
         let few = g.few in
@@ -109,9 +109,9 @@ module _ {l : List ℕ} {at n : ℕ} (b : Bytes l) (g : Counting l at n) where
               ∙ ap (λ i. before (g.done ++ (f ∷ [])) (all_fields (drop i l))) (sym (add-one q));
         }
 
-    pub counting-last : length l ≤ q → Counted l (Count (n + 1))
+    pub counting_last : length l ≤ q → Counted l (Count (n + 1))
     unfolding FieldEnds Counted
-    counting-last h =
+    counting_last h =
         let (f, y) : FieldEnds l at (At q) = rw z at e in
         (g.done ++ (f ∷ []), last_field f q y h, one_more f)
 

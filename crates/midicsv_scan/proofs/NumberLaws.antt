@@ -124,24 +124,24 @@ module _ (l : List ℕ) (at : ℕ) (h : at < length l) where
   number_other t = rw (drop-cons l at 0 h, t)
 
   module _ (t : is_digit (get_or l at 0) ≡ true) where
-    of-digits : (m : Outcome ℕ) → m ≡ read_digits 10 0 (drop at l) → and_then m (λ n r. check (leb n 4294967295) 22 0 (ok n r)) ≡ read_number (drop at l)
+    of_digits : (m : Outcome ℕ) → m ≡ read_digits 10 0 (drop at l) → and_then m (λ n r. check (leb n 4294967295) 22 0 (ok n r)) ≡ read_number (drop at l)
     unfolding read_number check
-    of-digits m e = rw (e, drop-cons l at 0 h, t)
+    of_digits m e = rw (e, drop-cons l at 0 h, t)
 
-    pub number-many : {run : DigitRun} → run ≡ TooMany → digits_as l run ≡ read_digits 10 0 (drop at l) → number_as l NoNumber ≡ read_number (drop at l)
+    pub number_many : {run : DigitRun} → run ≡ TooMany → digits_as l run ≡ read_digits 10 0 (drop at l) → number_as l NoNumber ≡ read_number (drop at l)
     unfolding number_as digits_as and_then
-    number-many q e = of-digits (digits_as l TooMany) (rw q at e)
+    number_many q e = of_digits (digits_as l TooMany) (rw q at e)
 
-    pub number-large : {run : DigitRun} {value next : ℕ} → run ≡ Digits value next → digits_as l run ≡ read_digits 10 0 (drop at l) → 4294967295 < value
+    pub number_large : {run : DigitRun} {value next : ℕ} → run ≡ Digits value next → digits_as l run ≡ read_digits 10 0 (drop at l) → 4294967295 < value
         → number_as l NoNumber ≡ read_number (drop at l)
     unfolding number_as digits_as and_then check
-    number-large {value = value} {next = next} q e m =
+    number_large {value = value} {next = next} q e m =
         let u : refused 22 0 ≡ check (leb value 4294967295) 22 0 (ok value (drop next l)) = rw (lt-leb value 4294967295 m) in
-        u ∙ of-digits (digits_as l (Digits value next)) (rw q at e)
+        u ∙ of_digits (digits_as l (Digits value next)) (rw q at e)
 
     pub number_is : {run : DigitRun} {value next : ℕ} → run ≡ Digits value next → digits_as l run ≡ read_digits 10 0 (drop at l) → value ≤ 4294967295
         → number_as l (Value value next) ≡ read_number (drop at l)
     unfolding number_as digits_as and_then check
     number_is {value = value} {next = next} q e m =
         let u : ok value (drop next l) ≡ check (leb value 4294967295) 22 0 (ok value (drop next l)) = rw (le-leb value 4294967295 m) in
-        u ∙ of-digits (digits_as l (Digits value next)) (rw q at e)
+        u ∙ of_digits (digits_as l (Digits value next)) (rw q at e)

@@ -161,22 +161,22 @@ module _ {l : List ℕ} {at p : ℕ} {look : Look} (g : Reading l at look p) whe
         let low = g.low in
         record { low = omega arith; high = omega arith; same = turned ∙ ap (turn_as (get_or l p 0) (drop (suc p) l)) e ∙ ap (λ i. ending (read_quoted (drop i l) (seen_of to))) (sym (add-one p)) }
 
-    pub reading-ended : r ≡ Ended → (text_as l at (At p) ≡ read_quoted (drop at l) plain) × EndWithin l at (At p)
+    pub reading_ended : r ≡ Ended → (text_as l at (At p) ≡ read_quoted (drop at l) plain) × EndWithin l at (At p)
     unfolding turn_as
-    reading-ended e =
+    reading_ended e =
         (ended_text l at p (turned ∙ ap (turn_as (get_or l p 0) (drop (suc p) l)) e ∙ ap (ok 0) (sym (drop-cons l p 0 h))), (g.low, g.high))
 
-    pub reading-broken : r ≡ Broken → (text_as l at Nowhere ≡ read_quoted (drop at l) plain) × EndWithin l at Nowhere
+    pub reading_broken : r ≡ Broken → (text_as l at Nowhere ≡ read_quoted (drop at l) plain) × EndWithin l at Nowhere
     unfolding turn_as
-    reading-broken e = (broken_text l at p (turned ∙ ap (turn_as (get_or l p 0) (drop (suc p) l)) e), tt)
+    reading_broken e = (broken_text l at p (turned ∙ ap (turn_as (get_or l p 0) (drop (suc p) l)) e), tt)
 
   module _ (h : length l ≤ p) where
     none_left : ending (read_quoted (drop at l) plain) ≡ ending (read_quoted [] (seen_of look))
     none_left = g.same ∙ ap (λ x. ending (read_quoted x (seen_of look))) (drop_of_length-le l h)
 
-    pub reading-last : look ≡ Quote → (text_as l at (At p) ≡ read_quoted (drop at l) plain) × EndWithin l at (At p)
-    reading-last e =
+    pub reading_last : look ≡ Quote → (text_as l at (At p) ≡ read_quoted (drop at l) plain) × EndWithin l at (At p)
+    reading_last e =
         (ended_text l at p (none_left ∙ ap (λ x. ending (read_quoted [] (seen_of x))) e ∙ last_quote ∙ ap (ok 0) (sym (drop_of_length-le l h))), (g.low, g.high))
 
-    pub reading-cut : OneOf unclosed (tag_of the_type look) → (text_as l at Nowhere ≡ read_quoted (drop at l) plain) × EndWithin l at Nowhere
-    reading-cut e = (broken_text l at p (none_left ∙ last_other look e), tt)
+    pub reading_cut : OneOf unclosed (tag_of the_type look) → (text_as l at Nowhere ≡ read_quoted (drop at l) plain) × EndWithin l at Nowhere
+    reading_cut e = (broken_text l at p (none_left ∙ last_other look e), tt)

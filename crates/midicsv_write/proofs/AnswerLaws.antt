@@ -45,17 +45,17 @@ module _ (w : Form) (s : List ℕ) (there : AcceptedFile s) where
     same_size : n ≡ length (written_as w there.piece)
     same_size = size ∙ ap (λ p. length (written_as w p)) there.same
 
-    pub room-answer : length old < n → (room_needed n ≡ written_answer w (length old) (read_file s)) × (old ≡ written_leaves w (read_file s) old)
+    pub room_answer : length old < n → (room_needed n ≡ written_answer w (length old) (read_file s)) × (old ≡ written_leaves w (read_file s) old)
     unfolding written_answer written_leaves pick
-    room-answer h = (rw (there.read, ← same_size, lt-leb n (length old) h) refl, rw (there.read, ← same_size, lt-leb n (length old) h) refl)
+    room_answer h = (rw (there.read, ← same_size, lt-leb n (length old) h) refl, rw (there.read, ← same_size, lt-leb n (length old) h) refl)
 
-    pub fine-answer : n ≤ length old → success n ≡ written_answer w (length old) (read_file s)
+    pub fine_answer : n ≤ length old → success n ≡ written_answer w (length old) (read_file s)
     unfolding written_answer pick
-    fine-answer h = rw (there.read, ← same_size, le-leb n (length old) h) refl
+    fine_answer h = rw (there.read, ← same_size, le-leb n (length old) h) refl
 
-    pub fine-leaves : n ≤ length old → sets old 0 Out ≡ written_leaves w (read_file s) old
+    pub fine_leaves : n ≤ length old → sets old 0 Out ≡ written_leaves w (read_file s) old
     unfolding written_leaves pick
-    fine-leaves h =
+    fine_leaves h =
         put_whole Out old n size h
         ∙ ap (λ p. written_as w p ++ drop n old) there.same ∙ rw (there.read, ← same_size, le-leb n (length old) h) refl
 

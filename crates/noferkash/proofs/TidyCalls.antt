@@ -37,25 +37,25 @@ module _ (f old : List ℕ) (r : ℕ) (new : List ℕ) (bs : Bytes f) (c : TidyC
     again = ap read_file counted ∙ there.again
 
     -- the piece of f is the one that was written
-    piece-there : piece_read f ≡ there.piece
-    piece-there = (demand f bs).piece there.piece there.laid there.small
+    piece_there : piece_read f ≡ there.piece
+    piece_there = (demand f bs).piece there.piece there.laid there.small
 
     -- a file with the same piece lays it out too
-    other-laid : (g : List ℕ) → Bytes g → CheckCall g 0 → piece_read g ≡ piece_read f → LaidOut g there.piece
-    other-laid g gs check same =
+    other_laid : (g : List ℕ) → Bytes g → CheckCall g 0 → piece_read g ≡ piece_read f → LaidOut g there.piece
+    other_laid g gs check same =
         let (q, laid, small) = (demand g gs).accepted.0 (omega (arith, check)) in
-        subst (LaidOut g) (sym ((demand g gs).piece q laid small) ∙ same ∙ piece-there) laid
+        subst (LaidOut g) (sym ((demand g gs).piece q laid small) ∙ same ∙ piece_there) laid
 
-    tidy-kept : TidyKept f r new
+    tidy_kept : TidyKept f r new
     unfolding verdict
-    tidy-kept =
+    tidy_kept =
         let read = laid_read f there.piece there.laid there.small in
         let w = take (length_of r) new in
         record {
           accepted = sym (ap (λ x. packed (verdict x)) (again ∙ read));
-          piece = let (laid, small) = (demand_3 w (bytes_take new (length_of r) room) there.piece).0 (again ∙ read) in (demand w (bytes_take new (length_of r) room)).piece there.piece laid small ∙ sym piece-there;
+          piece = let (laid, small) = (demand_3 w (bytes_take new (length_of r) room) there.piece).0 (again ∙ read) in (demand w (bytes_take new (length_of r) room)).piece there.piece laid small ∙ sym piece_there;
           very_bytes = λ g gs check same size.
-              nothing_smaller.very_bytes g there.piece (other-laid g gs check same) (size ∙ said.length ∙ there.size) ∙ sym (counted ∙ there.written);
+              nothing_smaller.very_bytes g there.piece (other_laid g gs check same) (size ∙ said.length ∙ there.size) ∙ sym (counted ∙ there.written);
           twice = λ other r' new' call. (call.0 ∙ ap (λ x. packed (short_answer (length other) x)) again, call.1 ∙ ap (λ x. short_leaves x other) again);
         }
 
@@ -64,5 +64,5 @@ tidy_calls =
     record {
       never_longer = λ f old r new bs c. omega (arith, (said f old r new bs c).length, (no_longer (length old) f bs).0);
       enough = λ f old r new bs c h n. (no_longer (length old) f bs).1 h (sym (said f old r new bs c).number ∙ n);
-      kept = λ f old r new bs room c z. tidy-kept f old r new bs c room z;
+      kept = λ f old r new bs room c z. tidy_kept f old r new bs c room z;
     }

@@ -46,15 +46,15 @@ module _ {sep : ℕ} {l : List ℕ} {from at : ℕ} (g : Emptied sep l from at) 
   emptied_open e = sym (g.same ∙ ap all_empty_in e)
 
   module _ {c : Cell} (k : CellAt sep false l at c) where
-    pub emptied-not : is_empty (in_cell false l c) ≡ false → false ≡ all_empty_in (cut sep (drop from l))
-    emptied-not e = sym (g.same ∙ ap all_empty_in k.cells ∙ full_cons (in_cell false l c) _ e)
+    pub emptied_not : is_empty (in_cell false l c) ≡ false → false ≡ all_empty_in (cut sep (drop from l))
+    emptied_not e = sym (g.same ∙ ap all_empty_in k.cells ∙ full_cons (in_cell false l c) _ e)
 
-    pub emptied-last : is_empty (in_cell false l c) ≡ true → length l ≤ c.next → true ≡ all_empty_in (cut sep (drop from l))
+    pub emptied_last : is_empty (in_cell false l c) ≡ true → length l ≤ c.next → true ≡ all_empty_in (cut sep (drop from l))
     unfolding all_empty_in all_empty cons_cell
-    emptied-last e h = sym (g.same ∙ ap all_empty_in (cell_last k h) ∙ empty_cons (in_cell false l c) (good []) e)
+    emptied_last e h = sym (g.same ∙ ap all_empty_in (cell_last k h) ∙ empty_cons (in_cell false l c) (good []) e)
 
-    pub emptied-on : is_empty (in_cell false l c) ≡ true → c.next < length l → Emptied sep l from (c.next + 1)
-    emptied-on e h =
+    pub emptied_on : is_empty (in_cell false l c) ≡ true → c.next < length l → Emptied sep l from (c.next + 1)
+    emptied_on e h =
         record {
           inside = omega arith;
           same = g.same ∙ ap all_empty_in (cell_next k _ (c.next + 1) (plain_rest l c.next h)) ∙ empty_cons (in_cell false l c) _ e;
@@ -83,13 +83,13 @@ module _ (sep : ℕ) (l : List ℕ) where
   of_lone x (bad n) e = let z : ◌≡◌ {A = ℕ} 0 1 = cc in absurd (omega arith)
 
   module _ {c : Cell} (k : CellAt sep false l 0 c) where
-    cells-here : (h : c.next < length l) → cut sep l ≡ cons_cell (in_cell false l c) (cut sep (drop (c.next + 1) l))
+    cells_here : (h : c.next < length l) → cut sep l ≡ cons_cell (in_cell false l c) (cut sep (drop (c.next + 1) l))
     unfolding seen pick
-    cells-here h = cell_next k _ (c.next + 1) (plain_rest l c.next h)
+    cells_here h = cell_next k _ (c.next + 1) (plain_rest l c.next h)
 
-    pub cells-several : c.next < length l → all_empty_in (cut sep (drop (c.next + 1) l)) ≡ false → LoneIs sep l Several
+    pub cells_several : c.next < length l → all_empty_in (cut sep (drop (c.next + 1) l)) ≡ false → LoneIs sep l Several
     unfolding LoneIs table_line line_by
-    cells-several h e = ap (λ m. pick (is_remark sep l) l m) (rw (cells-here h) (of_cells (in_cell false l c) (cut sep (drop (c.next + 1) l)) e))
+    cells_several h e = ap (λ m. pick (is_remark sep l) l m) (rw (cells_here h) (of_cells (in_cell false l c) (cut sep (drop (c.next + 1) l)) e))
 
     -- the others are empty, or there are none
     lone_is : (m : Result (List (List ℕ))) → is_remark sep l ≡ false → cut sep l ≡ cons_cell (in_cell false l c) m → all_empty_in m ≡ true → LoneIs sep l (Lone c) × LoneWithin l (Lone c)
@@ -97,12 +97,12 @@ module _ (sep : ℕ) (l : List ℕ) where
     lone_is m n h e =
         (rw n (ap (of_cut cells_line) h ∙ of_lone (in_cell false l c) m e), (k.ordered, omega (arith, k.before, k.inside)))
 
-    pub lone-among : is_remark sep l ≡ false → c.next < length l → all_empty_in (cut sep (drop (c.next + 1) l)) ≡ true → LoneIs sep l (Lone c) × LoneWithin l (Lone c)
-    lone-among n h e = lone_is (cut sep (drop (c.next + 1) l)) n (cells-here h) e
+    pub lone_among : is_remark sep l ≡ false → c.next < length l → all_empty_in (cut sep (drop (c.next + 1) l)) ≡ true → LoneIs sep l (Lone c) × LoneWithin l (Lone c)
+    lone_among n h e = lone_is (cut sep (drop (c.next + 1) l)) n (cells_here h) e
 
-    pub lone-last : is_remark sep l ≡ false → length l ≤ c.next → LoneIs sep l (Lone c) × LoneWithin l (Lone c)
+    pub lone_last : is_remark sep l ≡ false → length l ≤ c.next → LoneIs sep l (Lone c) × LoneWithin l (Lone c)
     unfolding seen pick cons_cell all_empty_in all_empty
-    lone-last n h = lone_is (good []) n (cell_last k h) refl
+    lone_last n h = lone_is (good []) n (cell_last k h) refl
 
 -- ---- put_line
 

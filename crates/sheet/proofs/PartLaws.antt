@@ -29,33 +29,33 @@ module _ (sep : ℕ) (twice : Bool) (l : List ℕ) where
   cut_part e = rw e
 
   module _ (r : RowStep) (i : RowIs sep twice l r) where
-    pub uncut-part : is_remark sep (seen twice l) ≡ false → r ≡ Uncut → 34 ∷ [] ≡ line_by row_line sep (seen twice l)
+    pub uncut_part : is_remark sep (seen twice l) ≡ false → r ≡ Uncut → 34 ∷ [] ≡ line_by row_line sep (seen twice l)
     unfolding RowIs of_cut
-    uncut-part n z = let e : RowIs sep twice l Uncut = rw z at i in sym (ap (of_cut row_line) e) ∙ cut_part n
+    uncut_part n z = let e : RowIs sep twice l Uncut = rw z at i in sym (ap (of_cut row_line) e) ∙ cut_part n
 
     module _ (row : Row) (z : r ≡ Cells row) where
       pub cells_of : (cs : List (List ℕ)) × (cut sep (seen twice l) ≡ good cs) × Looked cs row
       unfolding RowIs
       cells_of = rw z at i
 
-      pub cells-counted : length l ≤ 268435456 → row.cells < 2 ^ 32
-      cells-counted h = let (cs, e, k) = cells_of in omega (arith, k.cells, cells_few sep twice l cs e)
+      pub cells_counted : length l ≤ 268435456 → row.cells < 2 ^ 32
+      cells_counted h = let (cs, e, k) = cells_of in omega (arith, k.cells, cells_few sep twice l cs e)
 
       module _ (count : ℕ) (c : count ≡ field_count row.place row.cells row.kept) where
         -- the count is that of the cells
         counted : (cs : List (List ℕ)) → Looked cs row → count ≡ field_count row.place (length cs) (length (drop_empty cs))
         counted cs k = rw (← k.cells, ← k.kept) c
 
-        pub cells-fielded : Fielded count (cut sep (seen twice l))
+        pub cells_fielded : Fielded count (cut sep (seen twice l))
         unfolding Fielded
-        cells-fielded =
+        cells_fielded =
             let (cs, e, k) = cells_of in
             let few : Fielded count (good cs) = omega (arith, counted cs k, count_few row.place cs) in
             subst (Fielded count) (sym e) few
 
-        pub cells-part : is_remark sep (seen twice l) ≡ false → fields_of count row.place (cut sep (seen twice l)) ≡ line_by row_line sep (seen twice l)
+        pub cells_part : is_remark sep (seen twice l) ≡ false → fields_of count row.place (cut sep (seen twice l)) ≡ line_by row_line sep (seen twice l)
         unfolding fields_of of_cut row_line
-        cells-part n =
+        cells_part n =
             let (cs, e, k) = cells_of in
             ap (fields_of count row.place) e
             ∙ ap (λ m. joined (fields_in m row.place 0 cs)) (counted cs k)

@@ -94,12 +94,12 @@ module _ {sep : ℕ} {twice : Bool} {l : List ℕ} {at : ℕ} {row : Row} (g : L
   looking_open e = g.same ∙ ap (before g.front) e
 
   module _ {c : Cell} (s : Row) (k : CellAt sep twice l at c) (w : Grown row (in_cell twice l c) s) where
-    pub looking-last : length l ≤ c.next → RowIs sep twice l (Cells s)
+    pub looking_last : length l ≤ c.next → RowIs sep twice l (Cells s)
     unfolding RowIs before
-    looking-last h = (g.front ++ (in_cell twice l c ∷ []), g.same ∙ ap (before g.front) (cell_last k h), looked_more g.looked w)
+    looking_last h = (g.front ++ (in_cell twice l c ∷ []), g.same ∙ ap (before g.front) (cell_last k h), looked_more g.looked w)
 
-    pub looking-on : {q : ℕ} → Passed twice l c.next q → Looking sep twice l q s
-    looking-on {q} p =
+    pub looking_on : {q : ℕ} → Passed twice l c.next q → Looking sep twice l q s
+    looking_on {q} p =
         let few = g.few in
         record {
           front = g.front ++ (in_cell twice l c ∷ []);

@@ -247,7 +247,7 @@ open_bare sep x l a b = ap (λ z. pick (begins 34 z) lead bare) (pick_false _ _ 
 -- a bare cell begins with no quote
 pub bare_first : (sep x : ℕ) (l : List ℕ) → opening sep (x ∷ l) ≡ bare → eqb x 34 ≡ false
 bare_first sep x l h =
-    by_test (eqb x 34) (λ e. let z : opening sep (34 ∷ l) ≡ bare = rw (eqb-true x 34 e) at h in absurd (lead-bare (sym (open_lead sep [] l tt) ∙ z))) (λ e. e)
+    by_test (eqb x 34) (λ e. let z : opening sep (34 ∷ l) ≡ bare = rw (eqb-true x 34 e) at h in absurd (lead_bare (sym (open_lead sep [] l tt) ∙ z))) (λ e. e)
   where
     is_bare : Within → Bool
     is_bare bare = true
@@ -256,8 +256,8 @@ bare_first sep x l h =
     is_bare a_quote = false
     is_bare closed = false
 
-    lead-bare : lead ≡ bare → ⊥
-    lead-bare e = false≢true (ap is_bare e)
+    lead_bare : lead ≡ bare → ⊥
+    lead_bare e = false≢true (ap is_bare e)
 
 -- ---- the first cell of any row
 

@@ -90,11 +90,11 @@ doubled_has [] t h = absurd (false≢true h)
 doubled_has (x ∷ l) t h =
     by_test (eqb x 34)
     (λ e. let z : has 44 (34 ∷ l) ≡ true = rw (eqb-true x 34 e) at h in rw e (doubled_has l t z))
-    (λ e. rw e (or-has (eqb x 44) (has 44 l) (has 44 (doubled l ++ t)) h (λ z. doubled_has l t z)))
+    (λ e. rw e (or_has (eqb x 44) (has 44 l) (has 44 (doubled l ++ t)) h (λ z. doubled_has l t z)))
   where
-    or-has : (a b c : Bool) → (a || b) ≡ true → (b ≡ true → c ≡ true) → (a || c) ≡ true
-    or-has true b c e f = refl
-    or-has false b c e f = f e
+    or_has : (a b c : Bool) → (a || b) ≡ true → (b ≡ true → c ≡ true) → (a || c) ≡ true
+    or_has true b c e f = refl
+    or_has false b c e f = f e
 
 requote_has : (l : List ℕ) → has 44 l ≡ true → has 44 (requote l) ≡ true
 unfolding requote has

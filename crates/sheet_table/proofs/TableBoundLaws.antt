@@ -185,11 +185,11 @@ in_slack c (ok f (x ∷ r)) n e q = not_good q
 in_slack c (refused k p) n e q = not_good q
 
 no_place : (k : ℕ) → nowhere ≡ after k → ⊥
-no_place k e = false≢true (ap isPlace e)
+no_place k e = false≢true (ap is_place e)
   where
-    isPlace : TextPlace → Bool
-    isPlace nowhere = false
-    isPlace (after k) = true
+    is_place : TextPlace → Bool
+    is_place nowhere = false
+    is_place (after k) = true
 
 -- the text comes after Track, Time and name
 from_least : (i : ℕ) (cs : List Column) (t : Tail) (k : ℕ) → text_from i cs t ≡ after k → i ≤ k

@@ -130,14 +130,14 @@ module _ (P : ℕ → Type 0) (quote : P 34) (comma : P 44) where
   row_in cs a = joined_in (row_fields (text_at cs) cs) (fields_in_lem (text_at cs) cs a)
 
   module _ (f : List (List ℕ) → List ℕ) (h : (cs : List (List ℕ)) → AllIn cs → All P (f cs)) where
-    of-in : (m : Result (List (List ℕ))) → CellsIn m → All P (of_cut f m)
+    of_in : (m : Result (List (List ℕ))) → CellsIn m → All P (of_cut f m)
     unfolding of_cut
-    of-in (good cs) a = h cs a
-    of-in (bad n) a = (quote, tt)
+    of_in (good cs) a = h cs a
+    of_in (bad n) a = (quote, tt)
 
     by_in : (sep : ℕ) (l : List ℕ) → All P l → All P (line_by f sep l)
     unfolding line_by
-    by_in sep l a = list_pick P (is_remark sep l) _ _ a (of-in (cut sep l) (cut_in sep l a))
+    by_in sep l a = list_pick P (is_remark sep l) _ _ a (of_in (cut sep l) (cut_in sep l a))
 
   alone_in : (cs : List (List ℕ)) → AllIn cs → All P (cells_line cs)
   unfolding cells_line

@@ -72,35 +72,35 @@ module _ (s : List ℕ) (at : ℕ) (h : at + 8 ≤ length s) where
       check_eq 2 at _ (le-leb 8 (length (drop at s)) fit) ∙ simp (q0, q1)
 
   module _ (tag : ℕ) (et : tag ≡ N s 4 at) (n : ℕ) (en : n ≡ N s 4 (at + 4)) where
-    chunk-chain : read_chunk at (drop at s)
+    chunk_chain : read_chunk at (drop at s)
         ≡ check (leb n (length (drop (at + 8) s))) 2 at
         (pick (eqb tag track_tag) (ok (take n (drop (at + 8) s)) (drop n (drop (at + 8) s))) (find_track (length (drop at s)) (at + 8 + n) (drop n (drop (at + 8) s))))
     unfolding read_chunk find_track and_then
-    chunk-chain = rw (et, en) (simp head_there)
+    chunk_chain = rw (et, en) (simp head_there)
 
-    pub chunk-long : length s - (at + 8) < n → BadChunk 2 at ≡ C s at
+    pub chunk_long : length s - (at + 8) < n → BadChunk 2 at ≡ C s at
     unfolding check chunk_step
-    chunk-long o =
+    chunk_long o =
         let few : length (drop (at + 8) s) < n = simp length-drop o in
-        simp (chunk-chain, lt-leb n (length (drop (at + 8) s)) few)
+        simp (chunk_chain, lt-leb n (length (drop (at + 8) s)) few)
 
     module _ (o : at + 8 + n ≤ length s) where
       fit : leb n (length (drop (at + 8) s)) ≡ true
       fit = let h : n ≤ length (drop (at + 8) s) = simp length-drop (omega arith) in le-leb n (length (drop (at + 8) s)) h
 
-      pub chunk-fine : tag ≡ track_tag → Body (at + 8) (at + 8 + n) ≡ C s at
+      pub chunk_fine : tag ≡ track_tag → Body (at + 8) (at + 8 + n) ≡ C s at
       unfolding check chunk_step pick
-      chunk-fine right =
+      chunk_fine right =
           let back : at + 8 + n - n ≡ at + 8 = omega arith in
-          simp (chunk-chain, fit, eq-eqb tag track_tag right, drop-drop n (at + 8) s, place_back s (at + 8 + n) o, size_at s (at + 8) n o, back)
+          simp (chunk_chain, fit, eq-eqb tag track_tag right, drop-drop n (at + 8) s, place_back s (at + 8 + n) o, size_at s (at + 8) n o, back)
 
       -- a chunk with another tag: on with the next one
-      pub chunk-pass : Bytes s → (tag ≡ track_tag → ⊥) → C s at ≡ C s (at + 8 + n)
+      pub chunk_pass : Bytes s → (tag ≡ track_tag → ⊥) → C s at ≡ C s (at + 8 + n)
       unfolding check chunk_step pick read_chunk
-      chunk-pass bs wrong =
+      chunk_pass bs wrong =
           let few : length (drop (at + 8 + n) s) < length (drop at s) = simp length-drop (omega arith) in
           let same = find_fuel (length (drop at s)) (suc (length (drop (at + 8 + n) s))) (at + 8 + n) (drop (at + 8 + n) s) (bytes_drop s (at + 8 + n) bs) few (omega arith) in
-          let on : read_chunk at (drop at s) ≡ find_track (suc (length (drop (at + 8 + n) s))) (at + 8 + n) (drop (at + 8 + n) s) = chunk-chain ∙ simp (fit, ne_eqb tag track_tag wrong, drop-drop n (at + 8) s) same in
+          let on : read_chunk at (drop at s) ≡ find_track (suc (length (drop (at + 8 + n) s))) (at + 8 + n) (drop (at + 8 + n) s) = chunk_chain ∙ simp (fit, ne_eqb tag track_tag wrong, drop-drop n (at + 8) s) same in
           ap (chunk_step (length s)) on
 
 pub chunk_bad : (n k p : ℕ) (m : Outcome (List ℕ)) → chunk_step n m ≡ BadChunk k p → m ≡ refused k p

@@ -55,9 +55,9 @@ module _ (s : List ℕ) (h : 14 ≤ length s) where
       check_eq 2 0 _ (le-leb 14 (length s) h) ∙ simp (q0, q1, q2, q3, q4)
 
   module _ (x0 : ℕ) (e0 : x0 ≡ N s 4 0) where
-    pub head-tag : (x0 ≡ header_tag → ⊥) → BadHeader 3 0 ≡ H s
+    pub head_tag : (x0 ≡ header_tag → ⊥) → BadHeader 3 0 ≡ H s
     unfolding check header_step
-    head-tag n = simp (chain, ← e0, ne_eqb x0 header_tag n)
+    head_tag n = simp (chain, ← e0, ne_eqb x0 header_tag n)
 
     module _ (t0 : x0 ≡ header_tag) (x1 : ℕ) (e1 : x1 ≡ N s 4 4) where
       y0 : eqb (N s 4 0) header_tag ≡ true
@@ -72,9 +72,9 @@ module _ (s : List ℕ) (h : 14 ≤ length s) where
         long = rw (← e1) (le-leb 6 x1 t1)
 
         -- "2 at 0 for a header past the end"
-        pub head-past : length s - 8 < x1 → BadHeader 2 0 ≡ H s
+        pub head_past : length s - 8 < x1 → BadHeader 2 0 ≡ H s
         unfolding check header_step
-        head-past n =
+        head_past n =
             let few : length (drop 8 s) < x1 = simp length-drop n in
             let z : leb (N s 4 4) (length (drop 8 s)) ≡ false = rw (← e1) (lt-leb x1 (length (drop 8 s)) few) in
             simp (chain, y0, long, z)
@@ -83,17 +83,17 @@ module _ (s : List ℕ) (h : 14 ≤ length s) where
           whole : leb (N s 4 4) (length (drop 8 s)) ≡ true
           whole = let fit : x1 ≤ length (drop 8 s) = simp length-drop (omega arith) in rw (← e1) (le-leb x1 (length (drop 8 s)) fit)
 
-          pub head-format : 2 < x2 → BadHeader 3 8 ≡ H s
+          pub head_format : 2 < x2 → BadHeader 3 8 ≡ H s
           unfolding check header_step
-          head-format n = simp (chain, y0, long, whole, ← e2, lt-leb x2 2 n)
+          head_format n = simp (chain, y0, long, whole, ← e2, lt-leb x2 2 n)
 
           module _ (t2 : x2 ≤ 2) (x3 : ℕ) (e3 : x3 ≡ N s 2 10) where
             y2 : leb (N s 2 8) 2 ≡ true
             y2 = rw (← e2) (le-leb x2 2 t2)
 
-            pub head-count : count_ok x2 x3 ≡ false → BadHeader 3 10 ≡ H s
+            pub head_count : count_ok x2 x3 ≡ false → BadHeader 3 10 ≡ H s
             unfolding check header_step
-            head-count n =
+            head_count n =
                 let z : count_ok (N s 2 8) (N s 2 10) ≡ false = rw (← e2, ← e3) n in
                 simp (chain, y0, long, whole, y2, z)
 
@@ -101,15 +101,15 @@ module _ (s : List ℕ) (h : 14 ≤ length s) where
               y3 : count_ok (N s 2 8) (N s 2 10) ≡ true
               y3 = rw (← e2, ← e3) t3
 
-              pub head-division : division_ok x4 ≡ false → BadHeader 3 12 ≡ H s
+              pub head_division : division_ok x4 ≡ false → BadHeader 3 12 ≡ H s
               unfolding check header_step
-              head-division n =
+              head_division n =
                   let z : division_ok (N s 2 12) ≡ false = rw (← e4) n in
                   simp (chain, y0, long, whole, y2, y3, z)
 
-              pub head-fine : division_ok x4 ≡ true → Fields x2 x3 (division_step (division_of x4)) (8 + x1) ≡ H s
+              pub head_fine : division_ok x4 ≡ true → Fields x2 x3 (division_step (division_of x4)) (8 + x1) ≡ H s
               unfolding check header_step
-              head-fine n =
+              head_fine n =
                   let z : division_ok (N s 2 12) ≡ true = rw (← e4) n in
                   let sum : 14 + (x1 - 6) ≡ 8 + x1 = omega arith in
                   let rest : drop (N s 4 4 - 6) (drop 14 s) ≡ drop (8 + x1) s = ap (λ k. drop (k - 6) (drop 14 s)) (sym e1) ∙ drop-drop (x1 - 6) 14 s ∙ ap (λ k. drop k s) sum in

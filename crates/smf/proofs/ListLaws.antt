@@ -150,9 +150,9 @@ module _ (s : List ℕ) (b n : ℕ) (there : Accepted s b n) where
 
   -- a list is too short
   module _ (x y z : ℕ) (short : has_room x y z b ≡ false) where
-    pub short-answer : room_needed b ≡ list_answer x y z (read_file s)
+    pub short_answer_lem : room_needed b ≡ list_answer x y z (read_file s)
     unfolding list_answer pick
-    short-answer = rw (there.read, there.count, short) refl
+    short_answer_lem = rw (there.read, there.count, short) refl
 
     pub short_leaves_lem : (f : List (List Event) → List ℕ) (old : List ℕ) → old ≡ list_leaves f x y z (read_file s) old
     unfolding list_leaves pick
@@ -160,9 +160,9 @@ module _ (s : List ℕ) (b n : ℕ) (there : Accepted s b n) where
 
   -- all are long enough
   module _ (x y z : ℕ) (fits : has_room x y z b ≡ true) where
-    pub fine-answer : success b ≡ list_answer x y z (read_file s)
+    pub fine_answer : success b ≡ list_answer x y z (read_file s)
     unfolding list_answer pick
-    fine-answer = rw (there.read, there.count, fits) refl
+    fine_answer = rw (there.read, there.count, fits) refl
 
     -- a list that is stored from the first place on, and is the one of its tracks
     stored : (f : List (List Event) → List ℕ) (old xs : List ℕ) → f there.piece.tracks ≡ xs → length xs ≡ b → b ≤ length old
@@ -172,17 +172,17 @@ module _ (s : List ℕ) (b n : ℕ) (there : Accepted s b n) where
         let past : 0 + length xs ≡ b = omega arith in
         sets-eq xs old 0 (omega arith) ∙ rw (there.read, there.count, fits, past, same) refl
 
-    pub fine-leaves : (f : List (List Event) → List ℕ) (old : List ℕ) → ((ts : List (List Event)) → length (f ts) ≡ length ts) → b ≤ length old
+    pub fine_leaves : (f : List (List Event) → List ℕ) (old : List ℕ) → ((ts : List (List Event)) → length (f ts) ≡ length ts) → b ≤ length old
         → sets old 0 (f (value_or [] (R s b n))) ≡ list_leaves f x y z (read_file s) old
     unfolding value_or
-    fine-leaves f old same room =
+    fine_leaves f old same room =
         let got : f (value_or [] (R s b n)) ≡ f there.piece.tracks = ap (λ v. f (value_or [] v)) there.tracks in
         stored f old (f (value_or [] (R s b n))) (sym got) (ap length got ∙ same there.piece.tracks ∙ there.count) room
 
     -- the third list
-    pub fine-paddings : (a : ℕ) (d : Division) (old : List ℕ) → Bytes s → header_step (length s) (read_header s) ≡ Fields a b d n → b ≤ length old
+    pub fine_paddings : (a : ℕ) (d : Division) (old : List ℕ) → Bytes s → header_step (length s) (read_header s) ≡ Fields a b d n → b ≤ length old
         → sets old 0 (tracks_padding b n (drop n s)) ≡ list_leaves (paddings_in s) x y z (read_file s) old
-    fine-paddings a d old bs e room =
+    fine_paddings a d old bs e room =
         stored (paddings_in s) old (tracks_padding b n (drop n s)) (paddings_there s a b d n bs e) (paddings_count b n (drop n s) _ _ there.tracks) room
 
 pub length_times : (ts : List (List Event)) → length (end_times ts) ≡ length ts

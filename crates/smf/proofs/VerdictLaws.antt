@@ -113,13 +113,13 @@ module _ (s : List ℕ) (h : length s ≤ file_limit) where
         k (λ ts. record { format = head.format; division = head.division; tracks = ts })
         (rw (short, there.read, there.same_count, place_back s n there.inside))
 
-    pub file-tracks : (k p : ℕ) → tracks_step (length s) (read_tracks b n (drop n s)) ≡ BadTracks k p → refusal k p ≡ verdict (read_file s)
+    pub file_tracks : (k p : ℕ) → tracks_step (length s) (read_tracks b n (drop n s)) ≡ BadTracks k p → refusal k p ≡ verdict (read_file s)
     unfolding and_then verdict
-    file-tracks k p t = onward (λ f whole. rw (whole, tracks_bad (length s) k p _ t))
+    file_tracks k p t = onward (λ f whole. rw (whole, tracks_bad (length s) k p _ t))
 
-    pub file-behind : (q : ℕ) → tracks_step (length s) (read_tracks b n (drop n s)) ≡ Next q → verdict (read_behind q (drop q s)) ≡ verdict (read_file s)
+    pub file_behind : (q : ℕ) → tracks_step (length s) (read_tracks b n (drop n s)) ≡ Next q → verdict (read_behind q (drop q s)) ≡ verdict (read_file s)
     unfolding and_then
-    file-behind q t = onward (λ f whole. tracks_came s b n q _ bs refl t (λ ts here at. rw (whole, here, at) (sym (behind_is (f ts) (read_behind q (drop q s))))))
+    file_behind q t = onward (λ f whole. tracks_came s b n q _ bs refl t (λ ts here at. rw (whole, here, at) (sym (behind_is (f ts) (read_behind q (drop q s))))))
 
 -- ---- the loop over what stands after the last track
 
@@ -165,28 +165,28 @@ module _ (s : List ℕ) (at : ℕ) (more : at < length s) where
       rw behind_turn (rw (lt-leb 8 (length (drop at s)) few))
 
   module _ (h : at + 8 ≤ length s) (tag : ℕ) (et : tag ≡ N s 4 at) where
-    behind-head : Behind s at
+    behind_head : Behind s at
         ≡ verdict (check (not (eqb tag track_tag)) 13 at
         (check (leb (N s 4 (at + 4)) (length (drop (at + 8) s))) 2 at
         (and_then (pass_over (length (drop at s)) (at + 8 + N s 4 (at + 4)) (drop (N s 4 (at + 4)) (drop (at + 8) s))) (λ cs q. ok (record { tag = tag; holds = take (N s 4 (at + 4)) (drop (at + 8) s) } ∷ cs) q))))
     unfolding and_then
-    behind-head = ap verdict behind_turn ∙ rw et (simp (head_there s at h))
+    behind_head = ap verdict behind_turn ∙ rw et (simp (head_there s at h))
 
-    pub behind-track : tag ≡ track_tag → refusal 13 at ≡ Behind s at
+    pub behind_track : tag ≡ track_tag → refusal 13 at ≡ Behind s at
     unfolding check verdict
-    behind-track e = sym (behind-head ∙ rw (eq-eqb tag track_tag e) refl)
+    behind_track e = sym (behind_head ∙ rw (eq-eqb tag track_tag e) refl)
 
     module _ (other : tag ≡ track_tag → ⊥) (n : ℕ) (en : n ≡ N s 4 (at + 4)) where
-      pub behind-long : length s - (at + 8) < n → refusal 2 at ≡ Behind s at
+      pub behind_long : length s - (at + 8) < n → refusal 2 at ≡ Behind s at
       unfolding check verdict
-      behind-long o =
+      behind_long o =
           let few : length (drop (at + 8) s) < n = simp length-drop o in
-          sym (behind-head ∙ rw (ne_eqb tag track_tag other, ← en, lt-leb n (length (drop (at + 8) s)) few) refl)
+          sym (behind_head ∙ rw (ne_eqb tag track_tag other, ← en, lt-leb n (length (drop (at + 8) s)) few) refl)
 
-      pub behind-pass : Bytes s → at + 8 + n ≤ length s → Behind s at ≡ Behind s (at + 8 + n)
+      pub behind_pass : Bytes s → at + 8 + n ≤ length s → Behind s at ≡ Behind s (at + 8 + n)
       unfolding check read_behind
-      behind-pass bs o =
+      behind_pass bs o =
           let fit : n ≤ length (drop (at + 8) s) = simp length-drop (omega arith) in
           let few : length (drop (at + 8 + n) s) < length (drop at s) = simp length-drop (omega arith) in
           let same = pass_fuel (length (drop at s)) (suc (length (drop (at + 8 + n) s))) (at + 8 + n) (drop (at + 8 + n) s) (bytes_drop s (at + 8 + n) bs) few (omega arith) in
-          behind-head ∙ rw (ne_eqb tag track_tag other, ← en, le-leb n (length (drop (at + 8) s)) fit, drop-drop n (at + 8) s) (behind_cons _ _ ∙ ap verdict same)
+          behind_head ∙ rw (ne_eqb tag track_tag other, ← en, le-leb n (length (drop (at + 8) s)) fit, drop-drop n (at + 8) s) (behind_cons _ _ ∙ ap verdict same)

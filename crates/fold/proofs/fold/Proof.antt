@@ -1,7 +1,7 @@
 use Rattle.event.proofs.BytesLaws.{bytes_of}
 use Rattle.smf.proofs.AcceptedLaws.{accepted_file, file_readable, header_there}
 use Rattle.fold_piece.specs.FoldAnswer.{rows_lent}
-use Rattle.fold.proofs.TopLaws.{check_refused, short_enough, lawful_division, small_bits, tracks_readable, format-two, many-tracks, few_rows, prefix-found, promise-kept}
+use Rattle.fold.proofs.TopLaws.{check_refused, short_enough, lawful_division, small_bits, tracks_readable, format_two_lem, many_tracks, few_rows, prefix_found, promise_kept}
 use native.Mathlib.Omega.{arith}
 use mathlib.Core.Path.{sym, ◌∙◌}
 use borrow.Author.Rules.{rules}
@@ -32,7 +32,7 @@ refusal-requires-2 c κs = search rules
 returns-2 : tie.Need-returns-2
 returns-2 c = let a = c.before.before.before.before.before.before.before.before.before.before.before.before.before.args in
     let bytes = bytes_of a.file.now (λ k. omega (arith, c.before.before.before.before.before.before.before.before.before.before.before.before.shared-slice-known.given k)) in
-    format-two a.file.now bytes c.before.before.before.before.before.before.before.check.ensures.0 c.before.before.before.before.before.before.if1.false c.before.before.before.before.before.read-header.ensures c.before.before.before.format.given.1 a.out.now a.places.now a.times.now a.statuses.now _ c.before.if2.true c.refusal2.ensures
+    format_two_lem a.file.now bytes c.before.before.before.before.before.before.before.check.ensures.0 c.before.before.before.before.before.before.if1.false c.before.before.before.before.before.read-header.ensures c.before.before.before.format.given.1 a.out.now a.places.now a.times.now a.statuses.now _ c.before.if2.true c.refusal2.ensures
 
 refusal-requires-3 : tie.Need-refusal-requires-3
 refusal-requires-3 c κs = search rules
@@ -40,7 +40,7 @@ refusal-requires-3 c κs = search rules
 returns-3 : tie.Need-returns-3
 returns-3 c = let a = c.before.before.before.before.before.before.before.before.before.before.before.before.before.before.args in
     let bytes = bytes_of a.file.now (λ k. omega (arith, c.before.before.before.before.before.before.before.before.before.before.before.before.before.shared-slice-known.given k)) in
-    many-tracks a.file.now bytes c.before.before.before.before.before.before.before.before.check.ensures.0 c.before.before.before.before.before.before.before.if1.false c.before.before.before.before.before.before.read-header.ensures c.before.before.before.before.format.given.1 a.out.now a.places.now a.times.now a.statuses.now _ c.before.before.if2.false c.before.if3.true c.refusal3.ensures
+    many_tracks a.file.now bytes c.before.before.before.before.before.before.before.before.check.ensures.0 c.before.before.before.before.before.before.before.if1.false c.before.before.before.before.before.before.read-header.ensures c.before.before.before.before.format.given.1 a.out.now a.places.now a.times.now a.statuses.now _ c.before.before.if2.false c.before.if3.true c.refusal3.ensures
 
 cast-tracks : tie.Need-overflow-cast-tracks
 cast-tracks c = search rules
@@ -82,7 +82,7 @@ same-length-6 c = search rules
 returns-5 : tie.Need-returns-5
 returns-5 c = let a = c.before.before.before.before.before.before.before.before.before.before.before.before.before.before.before.before.before.before.before.before.args in
     let bytes = bytes_of a.file.now (λ k. omega (arith, c.before.before.before.before.before.before.before.before.before.before.before.before.before.before.before.before.before.before.before.shared-slice-known.given k)) in
-    prefix-found a.file.now bytes c.before.before.before.before.before.before.before.before.before.before.before.before.before.before.check.ensures.0 c.before.before.before.before.before.before.before.before.before.before.before.before.before.if1.false c.before.before.before.before.before.before.before.before.before.before.before.before.read-header.ensures c.before.before.before.before.before.before.before.before.before.before.format.given.1 a.out.now a.places.now a.times.now a.statuses.now _ c.before.before.before.before.before.before.before.before.if2.false c.before.before.before.before.before.before.before.if3.false (omega (arith, c.before.before.if4.false, c.before.before.before.rows-lent.ensures)) c.before.look.ensures c.if5.true
+    prefix_found a.file.now bytes c.before.before.before.before.before.before.before.before.before.before.before.before.before.before.check.ensures.0 c.before.before.before.before.before.before.before.before.before.before.before.before.before.if1.false c.before.before.before.before.before.before.before.before.before.before.before.before.read-header.ensures c.before.before.before.before.before.before.before.before.before.before.format.given.1 a.out.now a.places.now a.times.now a.statuses.now _ c.before.before.before.before.before.before.before.before.if2.false c.before.before.before.before.before.before.before.if3.false (omega (arith, c.before.before.if4.false, c.before.before.before.rows-lent.ensures)) c.before.look.ensures c.if5.true
 
 division-bits-requires : tie.Need-division-bits-requires
 division-bits-requires c κs = let a = c.before.before.before.before.before.before.before.before.before.before.before.before.before.before.before.before.before.before.before.before.args in
@@ -123,7 +123,7 @@ same-length-10 c = search rules
 returns-7 : tie.Need-returns-7
 returns-7 c = let a = c.before.before.before.before.before.before.before.before.before.before.before.before.before.before.before.before.before.before.before.before.before.before.before.before.before.before.before.before.before.before.before.before.before.before.args in let m = c.before.before.before.before.before.before.before.before.put-measured.ensures in
     let bytes = bytes_of a.file.now (λ k. omega (arith, c.before.before.before.before.before.before.before.before.before.before.before.before.before.before.before.before.before.before.before.before.before.before.before.before.before.before.before.before.before.before.before.before.before.shared-slice-known.given k)) in
-    promise-kept a.file.now bytes c.before.before.before.before.before.before.before.before.before.before.before.before.before.before.before.before.before.before.before.before.before.before.before.before.before.before.before.before.check.ensures.0 c.before.before.before.before.before.before.before.before.before.before.before.before.before.before.before.before.before.before.before.before.before.before.before.before.before.before.before.if1.false c.before.before.before.before.before.before.before.before.before.before.before.before.before.before.before.before.before.before.before.before.before.before.before.before.before.before.read-header.ensures c.before.before.before.before.before.before.before.before.before.before.before.before.before.before.before.before.before.before.before.before.before.before.before.before.format.given.1 a.out.now a.places.now a.times.now a.statuses.now c.before.before.before.before.before.before.before.before.put-measured.result c.before.before.before.before.before.before.before.before.before.before.before.before.before.before.before.before.before.before.before.before.before.before.if2.false c.before.before.before.before.before.before.before.before.before.before.before.before.before.before.before.before.before.before.before.before.before.if3.false (omega (arith, c.before.before.before.before.before.before.before.before.before.before.before.before.before.before.before.before.if4.false, c.before.before.before.before.before.before.before.before.before.before.before.before.before.before.before.before.before.rows-lent.ensures)) c.before.before.before.before.before.before.before.before.before.before.before.before.before.before.before.look.result c.before.before.before.before.before.before.before.before.before.before.before.before.before.before.before.look.ensures c.before.before.before.before.before.before.before.before.before.before.before.before.before.before.if5.false _ c.before.before.before.before.before.before.before.before.before.before.before.before.before.division-bits.ensures _ _ _ _ m.0 m.1.0 m.1.1.0 m.1.1.1.0 m.1.1.1.1
+    promise_kept a.file.now bytes c.before.before.before.before.before.before.before.before.before.before.before.before.before.before.before.before.before.before.before.before.before.before.before.before.before.before.before.before.check.ensures.0 c.before.before.before.before.before.before.before.before.before.before.before.before.before.before.before.before.before.before.before.before.before.before.before.before.before.before.before.if1.false c.before.before.before.before.before.before.before.before.before.before.before.before.before.before.before.before.before.before.before.before.before.before.before.before.before.before.read-header.ensures c.before.before.before.before.before.before.before.before.before.before.before.before.before.before.before.before.before.before.before.before.before.before.before.before.format.given.1 a.out.now a.places.now a.times.now a.statuses.now c.before.before.before.before.before.before.before.before.put-measured.result c.before.before.before.before.before.before.before.before.before.before.before.before.before.before.before.before.before.before.before.before.before.before.if2.false c.before.before.before.before.before.before.before.before.before.before.before.before.before.before.before.before.before.before.before.before.before.if3.false (omega (arith, c.before.before.before.before.before.before.before.before.before.before.before.before.before.before.before.before.if4.false, c.before.before.before.before.before.before.before.before.before.before.before.before.before.before.before.before.before.rows-lent.ensures)) c.before.before.before.before.before.before.before.before.before.before.before.before.before.before.before.look.result c.before.before.before.before.before.before.before.before.before.before.before.before.before.before.before.look.ensures c.before.before.before.before.before.before.before.before.before.before.before.before.before.before.if5.false _ c.before.before.before.before.before.before.before.before.before.before.before.before.before.division-bits.ensures _ _ _ _ m.0 m.1.0 m.1.1.0 m.1.1.1.0 m.1.1.1.1
 
 pub fold-spec : {M : Type 1} → statement M
 fold-spec =

@@ -1,4 +1,4 @@
-use Rattle.event.proofs.RowLaws.{row-sharps, row-flats, row-key-bad, row-minor-bad}
+use Rattle.event.proofs.RowLaws.{row_sharps, row_flats, row_key_bad, row_minor_bad}
 use native.Mathlib.Omega.{arith}
 use mathlib.Core.Path.{◌∙◌}
 use borrow.Author.Rules.{rules}
@@ -13,7 +13,7 @@ byte-at-requires-2 c κs = search rules
 
 returns : tie.Need-returns
 returns c = let a = c.before.before.before.before.args in
-    row-minor-bad a.body.now a.start c.before.before.byte_at.result c.before.byte-at2.result c.before.before.before.before.requires c.before.before.byte_at.ensures c.before.byte-at2.ensures c.if1.true
+    row_minor_bad a.body.now a.start c.before.before.byte_at.result c.before.byte-at2.result c.before.before.before.before.requires c.before.before.byte_at.ensures c.before.byte-at2.ensures c.if1.true
 
 add-silent : tie.Need-overflow-add-silent
 add-silent c = search rules
@@ -29,15 +29,15 @@ silent-requires-2 c κs = search rules
 
 returns-2 : tie.Need-returns-2
 returns-2 c = let a = c.before.before.before.before.before.before.args in
-    c.silent.ensures ∙ row-sharps a.body.now a.start c.before.before.before.before.byte_at.result c.before.before.before.byte-at2.result c.before.before.before.before.before.before.requires c.before.before.before.before.byte_at.ensures c.before.before.before.byte-at2.ensures (omega arith) c.before.before.if1.false
+    c.silent.ensures ∙ row_sharps a.body.now a.start c.before.before.before.before.byte_at.result c.before.before.before.byte-at2.result c.before.before.before.before.before.before.requires c.before.before.before.before.byte_at.ensures c.before.before.before.byte-at2.ensures (omega arith) c.before.before.if1.false
 
 returns-3 : tie.Need-returns-3
 returns-3 c = let a = c.before.before.before.before.before.before.args in
-    row-key-bad a.body.now a.start c.before.before.before.before.byte_at.result c.before.before.before.byte-at2.result c.before.before.before.before.before.before.requires c.before.before.before.before.byte_at.ensures c.before.before.before.byte-at2.ensures (omega arith) (omega arith)
+    row_key_bad a.body.now a.start c.before.before.before.before.byte_at.result c.before.before.before.byte-at2.result c.before.before.before.before.before.before.requires c.before.before.before.before.byte_at.ensures c.before.before.before.byte-at2.ensures (omega arith) (omega arith)
 
 returns-4 : tie.Need-returns-4
 returns-4 c = let a = c.before.before.before.before.before.before.before.args in
-    c.silent2.ensures ∙ row-flats a.body.now a.start c.before.before.before.before.before.byte_at.result c.before.before.before.before.byte-at2.result c.before.before.before.before.before.before.before.requires c.before.before.before.before.before.byte_at.ensures c.before.before.before.before.byte-at2.ensures (omega arith) (omega arith) c.before.before.before.if1.false
+    c.silent2.ensures ∙ row_flats a.body.now a.start c.before.before.before.before.before.byte_at.result c.before.before.before.before.byte-at2.result c.before.before.before.before.before.before.before.requires c.before.before.before.before.before.byte_at.ensures c.before.before.before.before.byte-at2.ensures (omega arith) (omega arith) c.before.before.before.if1.false
 
 pub key-signature-spec : {M : Type 1} → statement M
 key-signature-spec =

@@ -3,7 +3,7 @@ use Rattle.event.proofs.PaddingLaws.{type_there}
 use lib.ListN.{length}
 use Prim.Native.Nat.{◌+◌}
 use Rattle.event.proofs.PlaceLaws.{number_came, number_told, number_bad}
-use Rattle.event.proofs.StatusLaws.{meta_none, meta_type, meta_bad, meta-wrong, meta-right, meta-short}
+use Rattle.event.proofs.StatusLaws.{meta_none, meta_type, meta_bad, meta_wrong, meta_right, meta_short}
 use native.Mathlib.Omega.{arith}
 use mathlib.Core.Path.{sym, ◌∙◌, ap, ap₂}
 use borrow.Author.Rules.{rules}
@@ -48,7 +48,7 @@ returns-3 c =
     let a = c.before.before.before.before.before.before.before.before.before.before.before.args in
     let g = c.before.before.before.before.value.given in
     let (q, h) = number_came _ a.body.now (a.at + 1) g.0.0 g.0.1.0 (sym c.before.before.before.before.before.before.read_number.ensures ∙ g.1) in
-    ap (padded _) (meta-short a.body.now 0 a.at c.before.before.before.before.before.before.before.before.before.if1.false g.0.0 g.0.1.0 c.before.before.before.before.before.before.before.if2.false q (sym c.before.before.length-ok.ensures ∙ c.before.if3.true) c.if4.true)
+    ap (padded _) (meta_short a.body.now 0 a.at c.before.before.before.before.before.before.before.before.before.if1.false g.0.0 g.0.1.0 c.before.before.before.before.before.before.before.if2.false q (sym c.before.before.length-ok.ensures ∙ c.before.if3.true) c.if4.true)
 
 with-padding-requires : tie.Need-with-padding-requires
 with-padding-requires c κs = search rules
@@ -68,7 +68,7 @@ returns-4 c =
     let (q, h) = number_came _ a.body.now (a.at + 1) g.0.0 g.0.1.0 came in
     let there = c.before.before.before.before.before.before.before.before.before.before.before.if1.false in
     c.with-padding.ensures ∙ ap₂ padded (sym (type_there a.body.now a.at there ∙ number_told _ (length a.body.now) _ came))
-    (c.before.meta-value.ensures ∙ ap (frame_step (length a.body.now)) (sym (meta-right a.body.now 0 a.at there g.0.0 g.0.1.0 c.before.before.before.before.before.before.before.before.before.if2.false q (sym c.before.before.before.before.length-ok.ensures ∙ c.before.before.before.if3.true))))
+    (c.before.meta-value.ensures ∙ ap (frame_step (length a.body.now)) (sym (meta_right a.body.now 0 a.at there g.0.0 g.0.1.0 c.before.before.before.before.before.before.before.before.before.if2.false q (sym c.before.before.before.before.length-ok.ensures ∙ c.before.before.before.if3.true))))
 
 returns-5 : tie.Need-returns-5
 unfolding padded
@@ -83,7 +83,7 @@ returns-6 c =
     let a = c.before.before.before.before.before.before.before.before.before.before.args in
     let g = c.before.before.before.value.given in
     let (q, h) = number_came _ a.body.now (a.at + 1) g.0.0 g.0.1.0 (sym c.before.before.before.before.before.read_number.ensures ∙ g.1) in
-    ap (padded _) (meta-wrong a.body.now 0 a.at c.before.before.before.before.before.before.before.before.if1.false g.0.0 g.0.1.0 c.before.before.before.before.before.before.if2.false q (sym c.before.length-ok.ensures ∙ c.if3.false))
+    ap (padded _) (meta_wrong a.body.now 0 a.at c.before.before.before.before.before.before.before.before.if1.false g.0.0 g.0.1.0 c.before.before.before.before.before.before.if2.false q (sym c.before.length-ok.ensures ∙ c.if3.false))
 
 pub meta-event-spec : {M : Type 1} → statement M
 meta-event-spec =

@@ -1,4 +1,4 @@
-use Rattle.event.proofs.RowLaws.{row_prefix, row_port, row_end_lem, row-specific, row-unknown, sized, same_row, Other, other_kind}
+use Rattle.event.proofs.RowLaws.{row_prefix, row_port, row_end_lem, row_specific, row_unknown, sized, same_row, Other, other_kind}
 use Rattle.event.specs.Meta.{kind_of}
 use Rattle.event.specs.Reader.{length_ok}
 use native.Mathlib.Omega.{arith}
@@ -85,14 +85,14 @@ returns-7 c = let a = c.before.before.before.args in
 
 returns-8 : tie.Need-returns-8
 unfolding kind_of length_ok
-returns-8 c = let a = c.before.before.before.args in c.silent4.ensures ∙ row-specific a.body.now a.start a.t a.len c.before.before.before.requires.0 c.before.match.keys8
+returns-8 c = let a = c.before.before.before.args in c.silent4.ensures ∙ row_specific a.body.now a.start a.t a.len c.before.before.before.requires.0 c.before.match.keys8
 
 returns-9 : tie.Need-returns-9
 unfolding kind_of length_ok
 returns-9 c = let a = c.before.before.before.args in
     let r = c.before.match.rest in
     let o : Other a.t = record { not_prefix = r.0.0.0.0.0.0.0.1; not_port = r.0.0.0.0.0.0.1; not_end = r.0.0.0.0.0.1; not_tempo = r.0.0.0.0.1; not_offset = r.0.0.0.1; not_time = r.0.0.1; not_key = r.0.1 } in
-    c.silent5.ensures ∙ row-unknown a.body.now a.start a.t a.len c.before.before.before.requires.0 (other_kind a.t c.before.before.before.requires.1.1 o r.1)
+    c.silent5.ensures ∙ row_unknown a.body.now a.start a.t a.len c.before.before.before.requires.0 (other_kind a.t c.before.before.before.requires.1.1 o r.1)
 
 pub meta-high-spec : {M : Type 1} → statement M
 meta-high-spec =

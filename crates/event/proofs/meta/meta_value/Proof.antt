@@ -1,4 +1,4 @@
-use Rattle.event.proofs.RowLaws.{row-text, sized, same_row}
+use Rattle.event.proofs.RowLaws.{row_text, sized, same_row}
 use Rattle.event.specs.Meta.{kind_of}
 use Rattle.event.specs.Reader.{length_ok}
 use native.Mathlib.Omega.{arith}
@@ -27,7 +27,7 @@ returns c = let a = c.before.before.before.args in
 
 returns-2 : tie.Need-returns-2
 unfolding kind_of length_ok
-returns-2 c = let a = c.before.before.before.before.args in c.silent.ensures ∙ row-text a.body.now a.start a.t a.len c.before.before.before.before.requires.0 (omega arith) (omega arith)
+returns-2 c = let a = c.before.before.before.before.args in c.silent.ensures ∙ row_text a.body.now a.start a.t a.len c.before.before.before.before.requires.0 (omega arith) (omega arith)
 
 returns-3 : tie.Need-returns-3
 returns-3 c = search rules

@@ -1,4 +1,4 @@
-use Rattle.event.proofs.RowLaws.{row-tempo, row-tempo-bad}
+use Rattle.event.proofs.RowLaws.{row_tempo, row_tempo_bad}
 use mathlib.Core.Path.{◌∙◌}
 use borrow.Author.Rules.{rules}
 use Rattle.event.proofs.meta.tempo.Statement.{statement}
@@ -36,7 +36,7 @@ add-micros-2 c = search rules
 
 returns : tie.Need-returns
 returns c = let a = c.before.before.before.before.before.args in
-    row-tempo-bad a.body.now a.start c.before.before.before.byte_at.result c.before.before.byte-at2.result c.before.byte-at3.result c.before.before.before.before.before.requires c.before.before.before.byte_at.ensures c.before.before.byte-at2.ensures c.before.byte-at3.ensures c.if1.true
+    row_tempo_bad a.body.now a.start c.before.before.before.byte_at.result c.before.before.byte-at2.result c.before.byte-at3.result c.before.before.before.before.before.requires c.before.before.before.byte_at.ensures c.before.before.byte-at2.ensures c.before.byte-at3.ensures c.if1.true
 
 add-silent : tie.Need-overflow-add-silent
 add-silent c = search rules
@@ -46,7 +46,7 @@ silent-requires c κs = search rules
 
 returns-2 : tie.Need-returns-2
 returns-2 c = let a = c.before.before.before.before.before.before.args in
-    c.silent.ensures ∙ row-tempo a.body.now a.start c.before.before.before.before.byte_at.result c.before.before.before.byte-at2.result c.before.before.byte-at3.result c.before.before.before.before.before.before.requires c.before.before.before.before.byte_at.ensures c.before.before.before.byte-at2.ensures c.before.before.byte-at3.ensures c.before.if1.false
+    c.silent.ensures ∙ row_tempo a.body.now a.start c.before.before.before.before.byte_at.result c.before.before.before.byte-at2.result c.before.before.byte-at3.result c.before.before.before.before.before.before.requires c.before.before.before.before.byte_at.ensures c.before.before.before.byte-at2.ensures c.before.before.byte-at3.ensures c.before.if1.false
 
 pub tempo-spec : {M : Type 1} → statement M
 tempo-spec =

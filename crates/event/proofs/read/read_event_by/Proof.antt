@@ -2,7 +2,7 @@ use Rattle.event.proofs.BytesLaws.{bytes_of, bytes_drop}
 use lib.ListN.{length}
 use Rattle.event.proofs.PaddingLaws.{frame_padding_lem, sum_small}
 use Rattle.event.proofs.PlaceLaws.{number_came, number_told, number_bad}
-use Rattle.event.proofs.StepLaws.{event_bad, event-over, event-refused, event-found}
+use Rattle.event.proofs.StepLaws.{event_bad, event_over, event_refused, event_found}
 use native.Mathlib.Omega.{arith}
 use mathlib.Core.Path.{sym, ◌∙◌}
 use borrow.Author.Rules.{rules}
@@ -57,14 +57,14 @@ returns-2 c =
     let a = c.before.before.before.before.before.before.before.before.args in
     let g = c.before.before.before.before.value.given in
     let (q, h) = number_came _ a.body.now a.at g.0.0 g.0.1.0 (sym c.before.before.before.before.before.before.read_number.ensures ∙ g.1) in
-    event-over a.body.now a.time.0 a.status a.at g.0.0 g.0.1.0 q (sym c.before.before.later.ensures ∙ c.enum_told.given.1)
+    event_over a.body.now a.time.0 a.status a.at g.0.0 g.0.1.0 q (sym c.before.before.later.ensures ∙ c.enum_told.given.1)
 
 returns-3 : tie.Need-returns-3
 returns-3 c =
     let a = c.before.before.before.before.before.before.before.before.before.before.before.before.before.args in
     let g = c.before.before.before.before.before.before.before.before.before.value.given in
     let (q, h) = number_came _ a.body.now a.at g.0.0 g.0.1.0 (sym c.before.before.before.before.before.before.before.before.before.before.before.read_number.ensures ∙ g.1) in
-    event-refused a.body.now a.time.0 a.status a.at g.0.0 g.0.1.0 q c.before.before.before.before.before.t.given.0.0 c.before.number2.given.0.0 (sym c.before.before.before.before.before.before.before.later.ensures ∙ c.before.before.before.before.before.t.given.1) (sym c.before.before.before.after-delta.ensures ∙ c.before.number2.given.1)
+    event_refused a.body.now a.time.0 a.status a.at g.0.0 g.0.1.0 q c.before.before.before.before.before.t.given.0.0 c.before.number2.given.0.0 (sym c.before.before.before.before.before.before.before.later.ensures ∙ c.before.before.before.before.before.t.given.1) (sym c.before.before.before.after-delta.ensures ∙ c.before.number2.given.1)
 
 returns-4 : tie.Need-returns-4
 returns-4 c =
@@ -74,7 +74,7 @@ returns-4 c =
     let bytes = bytes_of a.body.now (λ i. omega (arith, c.before.before.before.before.before.before.before.before.before.before.before.before.shared-slice-known.given i)) in
     let (q, h) = number_came _ a.body.now a.at g.0.0 g.0.1.0 (sym c.before.before.before.before.before.before.before.before.before.before.before.read_number.ensures ∙ g.1) in
     let came = sym c.before.before.before.before.before.before.before.before.before.before.before.read_number.ensures ∙ g.1 in
-    event-found a.body.now a.time.0 a.status a.at g.0.0 g.0.1.0 q c.before.before.before.before.before.t.given.0.0 k.0.0 k.0.1.0 k.0.1.1.0 g.0.1.1.0 k.0.1.1.1.0 _ (omega arith) (number_told _ (length a.body.now) _ came)
+    event_found a.body.now a.time.0 a.status a.at g.0.0 g.0.1.0 q c.before.before.before.before.before.t.given.0.0 k.0.0 k.0.1.0 k.0.1.1.0 g.0.1.1.0 k.0.1.1.1.0 _ (omega arith) (number_told _ (length a.body.now) _ came)
     (bytes_drop a.body.now g.0.1.0 bytes) (sym c.before.before.before.before.before.before.before.later.ensures ∙ c.before.before.before.before.before.t.given.1) (sym c.before.before.before.after-delta.ensures ∙ k.1)
 
 pub read-event-by-spec : {M : Type 1} → statement M

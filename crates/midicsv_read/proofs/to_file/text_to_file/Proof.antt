@@ -1,4 +1,4 @@
-use Rattle.midicsv_read.proofs.ToFileLaws.{wrong_manner, long_text_lem, refused_text, long-file, small_room, written-file, no_room}
+use Rattle.midicsv_read.proofs.ToFileLaws.{wrong_manner, long_text_lem, refused_text, long_file, small_room, written_file, no_room}
 use mathlib.Core.Path.{sym, ◌∙◌}
 use borrow.Author.Rules.{rules}
 use Rattle.midicsv_read.proofs.to_file.text_to_file.Statement.{statement}
@@ -48,7 +48,7 @@ returns-3 : tie.Need-returns-3
 returns-3 c = let a = c.before.before.before.before.before.before.before.before.before.before.before.before.before.args in
     let p = c.before.before.before.before.before.before.before.pass in
     let none = no_room p.new.0 p.auto.0 in
-    let w = long-file a.text.now a.manner a.out.now c.before.before.before.before.before.before.before.before.before.before.if1.false c.before.before.before.before.before.before.before.before.before.if2.false _ (sym c.before.before.before.need.given.1 ∙ p.ensures.0) c.before.if3.true in
+    let w = long_file a.text.now a.manner a.out.now c.before.before.before.before.before.before.before.before.before.before.if1.false c.before.before.before.before.before.before.before.before.before.if2.false _ (sym c.before.before.before.need.given.1 ∙ p.ensures.0) c.before.if3.true in
     (c.refusal4.ensures ∙ w.0, rw none w.1)
 
 room-needed-requires : tie.Need-room-needed-requires
@@ -87,7 +87,7 @@ returns-6 : tie.Need-returns-6
 returns-6 c = let a = c.before.before.before.before.before.before.before.before.before.before.before.before.before.before.before.before.before.before.args in
     let p = c.before.before.before.before.before.before.before.before.before.before.before.before.pass in
     let none = no_room p.new.0 p.auto.0 in
-    let w = written-file a.text.now a.manner a.out.now c.before.before.before.before.before.before.before.before.before.before.before.before.before.before.before.if1.false c.before.before.before.before.before.before.before.before.before.before.before.before.before.before.if2.false _ (sym c.before.before.before.before.before.before.before.before.need.given.1 ∙ p.ensures.0) _ c.before.before.before.before.before.before.if3.false (rw none at c.before.before.before.before.before.if4.false) (rw none at c.before.before.before.pass2.ensures.1) in
+    let w = written_file a.text.now a.manner a.out.now c.before.before.before.before.before.before.before.before.before.before.before.before.before.before.before.if1.false c.before.before.before.before.before.before.before.before.before.before.before.before.before.before.if2.false _ (sym c.before.before.before.before.before.before.before.before.need.given.1 ∙ p.ensures.0) _ c.before.before.before.before.before.before.if3.false (rw none at c.before.before.before.before.before.if4.false) (rw none at c.before.before.before.pass2.ensures.1) in
     (c.success.ensures ∙ w.0, w.1)
 
 pub text-to-file-spec : {M : Type 1} → statement M

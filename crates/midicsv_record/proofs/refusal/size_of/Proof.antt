@@ -8,7 +8,7 @@ use Rattle.midicsv_record.specs.Column.{field_in, fields_in, value_as}
 use Rattle.midicsv_record.specs.Line.{size_as}
 use Rattle.midicsv_record.proofs.FiveLaws.{few_columns}
 use Rattle.midicsv_record.proofs.FieldInLaws.{field_in_lem}
-use Rattle.midicsv_record.proofs.SizeLaws.{size_none, size_text, size_missing, size-off, size-sized}
+use Rattle.midicsv_record.proofs.SizeLaws.{size_none, size_text, size_missing, size_off, size_sized}
 use native.Mathlib.Omega.{arith}
 use mathlib.Core.Path.{◌≡◌, sym, ◌∙◌, ap}
 use borrow.Author.Rules.{rules}
@@ -100,7 +100,7 @@ returns-4 c =
     let e : tail_at a.name ≡ sized = sym c.before.before.before.before.before.before.before.before.before.tail-kind.ensures ∙ ap tail_as c.before.before.before.before.before.before.before.enum-told3.given.1 in
     let h : 3 + length (columns_at a.name) < a.count = rw c.before.before.before.before.before.before.before.before.before.before.column-count.ensures at c.before.before.before.before.before.before.if1.false in
     let x : field_in l c.before.before.before.before.before.field.result ≡ get_or (fields_in l) (3 + length (columns_at a.name)) (num 0) = field_in_lem l _ _ f.fields (rw f.counts h) (rw c.before.before.before.before.before.before.before.before.before.before.column-count.ensures at c.before.before.before.before.before.field.ensures) in
-    (rw c.before.before.before.before.before.before.before.before.before.before.column-count.ensures at c.size-step3.ensures) ∙ size-sized l a.count a.name f e h _ x _ (ap value_as (sym c.before.before.v.given.1) ∙ c.before.before.before.before.number_of_lem.ensures l)
+    (rw c.before.before.before.before.before.before.before.before.before.before.column-count.ensures at c.size-step3.ensures) ∙ size_sized l a.count a.name f e h _ x _ (ap value_as (sym c.before.before.v.given.1) ∙ c.before.before.before.before.number_of_lem.ensures l)
 
 returns-5 : tie.Need-returns-5
 unfolding tail_as size_as value_as
@@ -111,7 +111,7 @@ returns-5 c =
     let e : tail_at a.name ≡ sized = sym c.before.before.before.before.before.before.before.tail-kind.ensures ∙ ap tail_as c.before.before.before.before.before.enum-told3.given.1 in
     let h : 3 + length (columns_at a.name) < a.count = rw c.before.before.before.before.before.before.before.before.column-count.ensures at c.before.before.before.before.if1.false in
     let x : field_in l c.before.before.before.field.result ≡ get_or (fields_in l) (3 + length (columns_at a.name)) (num 0) = field_in_lem l _ _ f.fields (rw f.counts h) (rw c.before.before.before.before.before.before.before.before.column-count.ensures at c.before.before.before.field.ensures) in
-    size-off l a.count a.name f e h _ x (ap value_as (sym c.enum-told4.given.1) ∙ c.before.before.number_of_lem.ensures l)
+    size_off l a.count a.name f e h _ x (ap value_as (sym c.enum-told4.given.1) ∙ c.before.before.number_of_lem.ensures l)
 
 pub size-of-spec : {M : Type 1} → statement M
 size-of-spec =

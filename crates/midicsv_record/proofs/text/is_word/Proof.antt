@@ -1,6 +1,6 @@
 use Prim.Native.Nat.{◌-◌}
 use lib.ListN.{length}
-use Rattle.midicsv_record.proofs.WordLaws.{Agrees, agrees_first, agrees-past, agrees-nothing, agrees-byte, differs, word-short, agrees-closed}
+use Rattle.midicsv_record.proofs.WordLaws.{Agrees, agrees_first, agrees_past, agrees_nothing, agrees_byte, differs, word_short, agrees_closed}
 use borrow.Author.Rules.{rules}
 use Rattle.midicsv_record.proofs.text.is_word.Statement.{statement}
 use Rattle.midicsv_record.proofs.text.is_word.Tie as tie
@@ -31,14 +31,14 @@ loop-less c = search rules
 
 loop-again : tie.Need-loop-preserved invariant-loop decreases-loop
 loop-again c = let a = c.before.before.before.before.before.before.before.before.before.args in let l = c.before.before.before.before.before.before.loop in let t = c.before.before.before.text-step in
-    agrees-nothing a.line.now a.word.now a.start l.i l.k l.passed l.invariant c.before.before.before.before.before.loop-test.true t.result t.ensures.0 _ c.before.next.given.1 t.ensures.1
+    agrees_nothing a.line.now a.word.now a.start l.i l.k l.passed l.invariant c.before.before.before.before.before.loop-test.true t.result t.ensures.0 _ c.before.next.given.1 t.ensures.1
 
 enum-known-b : tie.Need-enum-known-b invariant-loop decreases-loop
 enum-known-b c = search rules
 
 returns : tie.Need-returns invariant-loop decreases-loop
 returns c = let a = c.before.before.before.before.before.before.before.before.before.before.args in let l = c.before.before.before.before.before.before.before.loop in let t = c.before.before.before.before.text-step in
-    word-short a.line.now a.word.now a.start l.i l.k l.passed l.invariant c.before.before.before.before.before.before.loop-test.true t.result t.ensures.0 _ _ c.before.before.b.given.1 c.if1.true
+    word_short a.line.now a.word.now a.start l.i l.k l.passed l.invariant c.before.before.before.before.before.before.loop-test.true t.result t.ensures.0 _ _ c.before.before.b.given.1 c.if1.true
 
 shared-slice-read-if2 : tie.Need-shared-slice-read-if2 invariant-loop decreases-loop
 shared-slice-read-if2 c = search rules
@@ -55,18 +55,18 @@ loop-less-2 c = search rules
 
 loop-again-2 : tie.Need-loop-preserved-2 invariant-loop decreases-loop
 loop-again-2 c = let a = c.before.before.before.before.before.before.before.before.before.before.before.before.args in let l = c.before.before.before.before.before.before.before.before.before.loop in let t = c.before.before.before.before.before.before.text-step in
-    agrees-byte a.line.now a.word.now a.start l.i l.k l.passed l.invariant c.before.before.before.before.before.before.before.before.loop-test.true t.result t.ensures.0 _ _ c.before.before.before.before.b.given.1 t.ensures.1 c.before.before.if1.false c.if2.false
+    agrees_byte a.line.now a.word.now a.start l.i l.k l.passed l.invariant c.before.before.before.before.before.before.before.before.loop-test.true t.result t.ensures.0 _ _ c.before.before.before.before.b.given.1 t.ensures.1 c.before.before.if1.false c.if2.false
 
 enum_told : tie.Need-enum-told invariant-loop decreases-loop
 enum_told c = search rules
 
 returns-3 : tie.Need-returns-3 invariant-loop decreases-loop
 returns-3 c = let a = c.before.before.before.before.before.before.before.before.args in let l = c.before.before.before.before.before.loop in let t = c.before.before.text-step in
-    agrees-closed a.line.now a.word.now a.start l.i l.k l.passed l.invariant c.before.before.before.before.loop-test.true t.result t.ensures.0 c.enum_told.given.1
+    agrees_closed a.line.now a.word.now a.start l.i l.k l.passed l.invariant c.before.before.before.before.loop-test.true t.result t.ensures.0 c.enum_told.given.1
 
 returns-4 : tie.Need-returns-4 invariant-loop decreases-loop
 returns-4 c = let a = c.before.before.before.before.args in let l = c.before.loop in
-    agrees-past a.line.now a.word.now a.start l.i l.k l.passed l.invariant c.loop-test.false
+    agrees_past a.line.now a.word.now a.start l.i l.k l.passed l.invariant c.loop-test.false
 
 pub is-word-spec : {M : Type 1} → statement M
 is-word-spec =

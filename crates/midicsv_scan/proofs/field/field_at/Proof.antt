@@ -1,4 +1,4 @@
-use Rattle.midicsv_scan.proofs.FieldLaws.{first_none, first-quote, first-minus, first_digit, first-letter, first_other}
+use Rattle.midicsv_scan.proofs.FieldLaws.{first_none, first_quote, first_minus, first_digit, first_letter, first_other}
 use mathlib.Core.Path.{sym, ◌∙◌}
 use borrow.Author.Rules.{rules}
 use Rattle.midicsv_scan.proofs.field.field_at.Statement.{statement}
@@ -22,7 +22,7 @@ quoted-field-requires c κs = search rules
 returns-2 : tie.Need-returns-2
 returns-2 c =
     let r = c.quoted_field_lem in
-    first-quote _ _ _ c.before.before.before.before.skip_blanks_lem.ensures c.before.before.before.if1.false c.before.if2.true r.result r.ensures.0 r.ensures.1
+    first_quote _ _ _ c.before.before.before.before.skip_blanks_lem.ensures c.before.before.before.if1.false c.before.if2.true r.result r.ensures.0 r.ensures.1
 
 add-minus-field : tie.Need-overflow-add-minus-field
 add-minus-field c = search rules
@@ -33,7 +33,7 @@ minus-field-requires c κs = search rules
 returns-3 : tie.Need-returns-3
 returns-3 c =
     let r = c.minus_field_lem in
-    first-minus _ _ _ c.before.before.before.before.before.skip_blanks_lem.ensures c.before.before.before.before.if1.false c.before.before.if2.false c.before.if3.true r.result r.ensures.0 r.ensures.1
+    first_minus _ _ _ c.before.before.before.before.before.skip_blanks_lem.ensures c.before.before.before.before.if1.false c.before.before.if2.false c.before.if3.true r.result r.ensures.0 r.ensures.1
 
 is-digit-requires : tie.Need-is-digit-requires
 is-digit-requires c κs = search rules
@@ -55,7 +55,7 @@ name-field-requires c κs = search rules
 returns-5 : tie.Need-returns-5
 returns-5 c =
     let r = c.name_field_lem in
-    first-letter _ _ _ c.before.before.before.before.before.before.before.before.before.skip_blanks_lem.ensures c.before.before.before.before.before.before.before.before.if1.false c.before.before.before.before.before.before.if2.false c.before.before.before.before.before.if3.false (sym c.before.before.before.before.is_digit.ensures ∙ c.before.before.before.if4.false) (sym c.before.before.is-letter.ensures ∙ c.before.if5.true) r.result r.ensures.0 r.ensures.1
+    first_letter _ _ _ c.before.before.before.before.before.before.before.before.before.skip_blanks_lem.ensures c.before.before.before.before.before.before.before.before.if1.false c.before.before.before.before.before.before.if2.false c.before.before.before.before.before.if3.false (sym c.before.before.before.before.is_digit.ensures ∙ c.before.before.before.if4.false) (sym c.before.before.is-letter.ensures ∙ c.before.if5.true) r.result r.ensures.0 r.ensures.1
 
 returns-6 : tie.Need-returns-6
 returns-6 c = first_other _ _ _ c.before.before.before.before.before.before.before.before.skip_blanks_lem.ensures c.before.before.before.before.before.before.before.if1.false c.before.before.before.before.before.if2.false c.before.before.before.before.if3.false (sym c.before.before.before.is_digit.ensures ∙ c.before.before.if4.false) (sym c.before.is-letter.ensures ∙ c.if5.false)

@@ -1,4 +1,4 @@
-use Rattle.midicsv_scan.proofs.FieldLaws.{number_place, minus_broken, minus-open, minus-zero, minus_is}
+use Rattle.midicsv_scan.proofs.FieldLaws.{number_place, minus_broken, minus_open, minus_zero, minus_is}
 use borrow.Author.Rules.{rules}
 use Rattle.midicsv_scan.proofs.field.minus_field.Statement.{statement}
 use Rattle.midicsv_scan.proofs.field.minus_field.Tie as tie
@@ -29,7 +29,7 @@ returns c =
     let a = c.before.before.before.before.before.before.before.before.before.before.args in
     let t = c.before.before.before.before.before.before.before.before.number_at in
     let k = c.before.before.before.before.closed in
-    minus-zero a.line.now a.at t.result t.ensures.0 _ _ c.before.before.before.before.before.before.value.given.1 k.result k.ensures.0 _ c.before.before.next.given.1 t.ensures.1 k.ensures.1 c.if1.true
+    minus_zero a.line.now a.at t.result t.ensures.0 _ _ c.before.before.before.before.before.before.value.given.1 k.result k.ensures.0 _ c.before.before.next.given.1 t.ensures.1 k.ensures.1 c.if1.true
 
 returns-2 : tie.Need-returns-2
 returns-2 c =
@@ -42,7 +42,7 @@ returns-3 c =
     let a = c.before.before.before.before.before.before.before.before.args in
     let t = c.before.before.before.before.before.before.number_at in
     let k = c.before.before.closed in
-    minus-open a.line.now a.at t.result t.ensures.0 _ _ c.before.before.before.before.value.given.1 k.result k.ensures.0 c.enum-told2.given.1
+    minus_open a.line.now a.at t.result t.ensures.0 _ _ c.before.before.before.before.value.given.1 k.result k.ensures.0 c.enum-told2.given.1
 
 returns-4 : tie.Need-returns-4
 returns-4 c =

@@ -1,4 +1,4 @@
-use Rattle.midicsv_scan.proofs.FieldLaws.{number_place, number_broken, number-open, number_is}
+use Rattle.midicsv_scan.proofs.FieldLaws.{number_place, number_broken, number_open, number_is}
 use borrow.Author.Rules.{rules}
 use Rattle.midicsv_scan.proofs.field.number_field.Statement.{statement}
 use Rattle.midicsv_scan.proofs.field.number_field.Tie as tie
@@ -35,7 +35,7 @@ returns-2 c =
     let a = c.before.before.before.before.before.before.before.before.args in
     let t = c.before.before.before.before.before.before.number_at in
     let k = c.before.before.closed in
-    number-open a.line.now a.at t.result t.ensures.0 _ _ c.before.before.before.before.value.given.1 k.result k.ensures.0 c.enum-told2.given.1
+    number_open a.line.now a.at t.result t.ensures.0 _ _ c.before.before.before.before.value.given.1 k.result k.ensures.0 c.enum-told2.given.1
 
 returns-3 : tie.Need-returns-3
 returns-3 c =

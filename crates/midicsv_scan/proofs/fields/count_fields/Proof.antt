@@ -2,7 +2,7 @@ use Prim.Native.Nat.{◌-◌}
 use lib.ListN.{length}
 use Rattle.event.proofs.BytesLaws.{bytes_of}
 use Rattle.midicsv_scan.proofs.FieldLaws.{end_place}
-use Rattle.midicsv_scan.proofs.FieldsLaws.{Counting, counting_first, counting_bad, counting-on, counting-last}
+use Rattle.midicsv_scan.proofs.FieldsLaws.{Counting, counting_first, counting_bad, counting_on, counting_last}
 use native.Mathlib.Omega.{arith}
 use borrow.Author.Rules.{rules}
 use Rattle.midicsv_scan.proofs.fields.count_fields.Statement.{statement}
@@ -37,7 +37,7 @@ add-n c = search rules
 returns-2 : tie.Need-returns-2 invariant-loop decreases-loop
 returns-2 c =
     let e = c.before.before.before.before.field_end in
-    counting-last (bytes_of c.before.before.before.before.before.before.before.args.line.now (λ i. omega (arith, c.before.before.before.before.before.before.shared-slice-known.given i))) c.before.before.before.before.before.loop.invariant e.result _ c.before.before.next.given.1 e.ensures.0 e.ensures.1 c.if1.true
+    counting_last (bytes_of c.before.before.before.before.before.before.before.args.line.now (λ i. omega (arith, c.before.before.before.before.before.before.shared-slice-known.given i))) c.before.before.before.before.before.loop.invariant e.result _ c.before.before.next.given.1 e.ensures.0 e.ensures.1 c.if1.true
 
 add_at : tie.Need-overflow-add-at invariant-loop decreases-loop
 add_at c = search rules
@@ -51,7 +51,7 @@ loop-less c =
 loop-again : tie.Need-loop-preserved invariant-loop decreases-loop
 loop-again c =
     let e = c.before.before.before.before.field_end in
-    counting-on (bytes_of c.before.before.before.before.before.before.before.args.line.now (λ i. omega (arith, c.before.before.before.before.before.before.shared-slice-known.given i))) c.before.before.before.before.before.loop.invariant e.result _ c.before.before.next.given.1 e.ensures.0 e.ensures.1 c.if1.false
+    counting_on (bytes_of c.before.before.before.before.before.before.before.args.line.now (λ i. omega (arith, c.before.before.before.before.before.before.shared-slice-known.given i))) c.before.before.before.before.before.loop.invariant e.result _ c.before.before.next.given.1 e.ensures.0 e.ensures.1 c.if1.false
 
 pub count-fields-spec : {M : Type 1} → statement M
 count-fields-spec =

@@ -1,6 +1,6 @@
 use Prim.Native.Nat.{◌-◌, ◌≤◌}
 use Rattle.event.proofs.BytesLaws.{bytes_of}
-use Rattle.midicsv_scan.proofs.FieldsLaws.{Counting, counting_first, counting-on, place_found, place_bad, place_few}
+use Rattle.midicsv_scan.proofs.FieldsLaws.{Counting, counting_first, counting_on, place_found, place_bad, place_few}
 use native.Mathlib.Omega.{arith}
 use mathlib.Core.Path.{◌≡◌}
 use borrow.Author.Rules.{rules}
@@ -47,7 +47,7 @@ loop-less c = search rules
 loop-again : tie.Need-loop-preserved invariant-loop decreases-loop
 loop-again c =
     let e = c.before.before.before.before.field_end in
-    (omega arith, counting-on (bytes_of c.before.before.before.before.before.before.before.before.args.line.now (λ i. omega (arith, c.before.before.before.before.before.before.before.shared-slice-known.given i))) c.before.before.before.before.before.before.loop.invariant.1 e.result _ c.before.before.next.given.1 e.ensures.0 e.ensures.1 c.if1.false)
+    (omega arith, counting_on (bytes_of c.before.before.before.before.before.before.before.before.args.line.now (λ i. omega (arith, c.before.before.before.before.before.before.before.shared-slice-known.given i))) c.before.before.before.before.before.before.loop.invariant.1 e.result _ c.before.before.next.given.1 e.ensures.0 e.ensures.1 c.if1.false)
 
 returns-3 : tie.Need-returns-3 invariant-loop decreases-loop
 returns-3 c =

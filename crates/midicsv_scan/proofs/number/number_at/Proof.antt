@@ -1,5 +1,5 @@
 use borrow.Author.Tests.{not-true, not-false}
-use Rattle.midicsv_scan.proofs.NumberLaws.{digits_place, number_none, number_other, number-many, number-large, number_is}
+use Rattle.midicsv_scan.proofs.NumberLaws.{digits_place, number_none, number_other, number_many, number_large, number_is}
 use mathlib.Core.Path.{sym, ◌∙◌}
 use borrow.Author.Rules.{rules}
 use Rattle.midicsv_scan.proofs.number.number_at.Statement.{statement}
@@ -27,13 +27,13 @@ enum-known-value : tie.Need-enum-known-value
 enum-known-value c = search rules
 
 returns-3 : tie.Need-returns-3
-returns-3 c = (number-large _ _ c.before.before.before.before.before.before.before.before.if1.false (sym c.before.before.before.before.before.before.is_digit.ensures ∙ not-false _ c.before.before.before.before.before.if2.false) c.before.before.value.given.1 c.before.before.before.before.digits.ensures.0 c.if3.true, tt)
+returns-3 c = (number_large _ _ c.before.before.before.before.before.before.before.before.if1.false (sym c.before.before.before.before.before.before.is_digit.ensures ∙ not-false _ c.before.before.before.before.before.if2.false) c.before.before.value.given.1 c.before.before.before.before.digits.ensures.0 c.if3.true, tt)
 
 cast-t13 : tie.Need-overflow-cast-t13
 cast-t13 c = search rules
 
 returns-4 : tie.Need-returns-4
-returns-4 c = (number-many _ _ c.before.before.before.before.before.before.if1.false (sym c.before.before.before.before.is_digit.ensures ∙ not-false _ c.before.before.before.if2.false) c.enum_told.given.1 c.before.before.digits.ensures.0, tt)
+returns-4 c = (number_many _ _ c.before.before.before.before.before.before.if1.false (sym c.before.before.before.before.is_digit.ensures ∙ not-false _ c.before.before.before.if2.false) c.enum_told.given.1 c.before.before.digits.ensures.0, tt)
 
 returns-5 : tie.Need-returns-5
 returns-5 c =

@@ -1,6 +1,6 @@
 use Prim.Native.Nat.{◌-◌}
 use lib.ListN.{length}
-use Rattle.midicsv_scan.proofs.TextLaws.{Reading, reading_first, reading_on, reading-ended, reading-broken, reading-last, reading-cut}
+use Rattle.midicsv_scan.proofs.TextLaws.{Reading, reading_first, reading_on, reading_ended, reading_broken, reading_last, reading_cut}
 use borrow.Author.Rules.{rules}
 use Rattle.midicsv_scan.proofs.text.text_end.Statement.{statement}
 use Rattle.midicsv_scan.proofs.text.text_end.Tie as tie
@@ -24,13 +24,13 @@ enum_told : tie.Need-enum-told invariant-loop decreases-loop
 enum_told c = search rules
 
 returns : tie.Need-returns invariant-loop decreases-loop
-returns c = reading-ended c.before.before.before.before.before.loop.invariant c.before.before.before.before.loop-test.true _ c.before.before.after-byte.ensures c.enum_told.given.1
+returns c = reading_ended c.before.before.before.before.before.loop.invariant c.before.before.before.before.loop-test.true _ c.before.before.after-byte.ensures c.enum_told.given.1
 
 enum-told-2 : tie.Need-enum-told-2 invariant-loop decreases-loop
 enum-told-2 c = search rules
 
 returns-2 : tie.Need-returns-2 invariant-loop decreases-loop
-returns-2 c = reading-broken c.before.before.before.before.before.loop.invariant c.before.before.before.before.loop-test.true _ c.before.before.after-byte.ensures c.enum-told2.given.1
+returns-2 c = reading_broken c.before.before.before.before.before.loop.invariant c.before.before.before.before.loop-test.true _ c.before.before.after-byte.ensures c.enum-told2.given.1
 
 enum-known-to : tie.Need-enum-known-to invariant-loop decreases-loop
 enum-known-to c = search rules
@@ -48,10 +48,10 @@ enum-told-3 : tie.Need-enum-told-3 invariant-loop decreases-loop
 enum-told-3 c = search rules
 
 returns-3 : tie.Need-returns-3 invariant-loop decreases-loop
-returns-3 c = reading-last c.before.before.before.loop.invariant c.before.before.loop-test.false c.enum-told3.given.1
+returns-3 c = reading_last c.before.before.before.loop.invariant c.before.before.loop-test.false c.enum-told3.given.1
 
 returns-4 : tie.Need-returns-4 invariant-loop decreases-loop
-returns-4 c = reading-cut c.before.before.loop.invariant c.before.loop-test.false c.match2.keys2
+returns-4 c = reading_cut c.before.before.loop.invariant c.before.loop-test.false c.match2.keys2
 
 pub text-end-spec : {M : Type 1} → statement M
 text-end-spec =

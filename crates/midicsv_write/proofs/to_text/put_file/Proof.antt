@@ -6,7 +6,7 @@ use Rattle.smf.specs.PieceRead.{piece_read}
 use Rattle.smf.proofs.AcceptedLaws.{accepted_file, file_readable}
 use Rattle.midicsv.specs.Code.Form.{form_of}
 use Rattle.midicsv.specs.Text.{written_as}
-use Rattle.midicsv_write.proofs.AnswerLaws.{text_refused, text_fits, room-answer, fine-answer, fine-leaves}
+use Rattle.midicsv_write.proofs.AnswerLaws.{text_refused, text_fits, room_answer, fine_answer, fine_leaves}
 use native.Mathlib.Omega.{arith}
 use mathlib.Core.Path.{◌≡◌, ◌∙◌, ap}
 use borrow.Author.Rules.{rules}
@@ -49,7 +49,7 @@ returns-2 c =
     let n = c.before.before.before.put-text.result in
     let size : n ≡ length (written_as w (piece_read s)) = omega (arith, m.place) in
     let fits : n ≤ length old = omega (arith, size, text_fits w s there bytes, c.before.before.before.before.before.before.most-for.ensures, c.before.before.before.before.before.if2.true) in
-    (c.success.ensures ∙ fine-answer w s there old n size fits, m.contents ∙ fine-leaves w s there old n size fits)
+    (c.success.ensures ∙ fine_answer w s there old n size fits, m.contents ∙ fine_leaves w s there old n size fits)
 
 slice-relend-prefix-put-text : tie.Need-slice-relend-prefix-put-text
 slice-relend-prefix-put-text c = search rules
@@ -80,7 +80,7 @@ returns-3 c =
     let m = c.before.before.before.before.put-text2.ensures in
     let n = c.before.before.before.before.put-text2.result in
     let kept = ap length (unmeasured old m) in
-    let room = room-answer w s there old n (measured m) (omega (arith, kept, c.before.if3.true)) in
+    let room = room_answer w s there old n (measured m) (omega (arith, kept, c.before.if3.true)) in
     (c.room-needed.ensures ∙ room.0, unmeasured old m ∙ room.1)
 
 put-text-requires-3 : tie.Need-put-text-requires-3
@@ -107,7 +107,7 @@ returns-4 c =
     let n = c.before.before.before.before.before.before.before.before.put-text2.result in
     let kept = ap length (unmeasured old m) in
     let fits : n ≤ length old = omega (arith, kept, c.before.before.before.before.before.if3.false) in
-    (c.success2.ensures ∙ fine-answer w s there old n (measured m) fits, (after_measure m c.before.before.before.put-text3.ensures).contents ∙ fine-leaves w s there old n (measured m) fits)
+    (c.success2.ensures ∙ fine_answer w s there old n (measured m) fits, (after_measure m c.before.before.before.put-text3.ensures).contents ∙ fine_leaves w s there old n (measured m) fits)
 
 pub put-file-spec : {M : Type 1} → statement M
 put-file-spec =

@@ -3,7 +3,7 @@ use Prim.Native.Nat.{◌-◌}
 use lib.ListN.{length}
 use borrow.Author.Tests.{not-true, not-false}
 use Rattle.sheet.proofs.WalkLaws.{cell_found, cell_open}
-use Rattle.sheet.proofs.LoneLaws.{Emptied, emptied_first, emptied_open, emptied-not, emptied-last, emptied-on}
+use Rattle.sheet.proofs.LoneLaws.{Emptied, emptied_first, emptied_open, emptied_not, emptied_last, emptied_on}
 use native.Mathlib.Omega.{arith}
 use mathlib.Core.Path.{sym, ◌∙◌}
 use borrow.Author.Rules.{rules}
@@ -48,12 +48,12 @@ is-empty-cell-requires c κs = search rules
 returns-2 : tie.Need-returns-2 invariant-loop decreases-loop
 returns-2 c =
     let k = cell_found _ _ _ _ _ c.before.before.before.before.before.before.Cell-at.ensures _ c.before.before.before.before.cell.given.1 in
-    emptied-not c.before.before.before.before.before.before.before.loop.invariant k (sym c.before.is-empty-cell.ensures ∙ not-true c.before.is-empty-cell.result c.if1.true)
+    emptied_not c.before.before.before.before.before.before.before.loop.invariant k (sym c.before.is-empty-cell.ensures ∙ not-true c.before.is-empty-cell.result c.if1.true)
 
 returns-3 : tie.Need-returns-3 invariant-loop decreases-loop
 returns-3 c =
     let k = cell_found _ _ _ _ _ c.before.before.before.before.before.before.before.Cell-at.ensures _ c.before.before.before.before.before.cell.given.1 in
-    emptied-last c.before.before.before.before.before.before.before.before.loop.invariant k (sym c.before.before.is-empty-cell.ensures ∙ not-false c.before.before.is-empty-cell.result c.before.if1.false) c.if2.true
+    emptied_last c.before.before.before.before.before.before.before.before.loop.invariant k (sym c.before.before.is-empty-cell.ensures ∙ not-false c.before.before.is-empty-cell.result c.before.if1.false) c.if2.true
 
 add_at : tie.Need-overflow-add-at invariant-loop decreases-loop
 add_at c = search rules
@@ -66,7 +66,7 @@ loop-less c =
 loop-again : tie.Need-loop-preserved invariant-loop decreases-loop
 loop-again c =
     let k = cell_found _ _ _ _ _ c.before.before.before.before.before.before.before.Cell-at.ensures _ c.before.before.before.before.before.cell.given.1 in
-    emptied-on c.before.before.before.before.before.before.before.before.loop.invariant k (sym c.before.before.is-empty-cell.ensures ∙ not-false c.before.before.is-empty-cell.result c.before.if1.false) c.if2.false
+    emptied_on c.before.before.before.before.before.before.before.before.loop.invariant k (sym c.before.before.is-empty-cell.ensures ∙ not-false c.before.before.is-empty-cell.result c.before.if1.false) c.if2.false
 
 pub are-empty-spec : {M : Type 1} → statement M
 are-empty-spec =

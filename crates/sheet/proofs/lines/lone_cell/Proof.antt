@@ -3,7 +3,7 @@ use Rattle.sheet.specs.Code.Walk.{LoneWithin}
 use Rattle.sheet.specs.Code.Seen.{seen}
 use Rattle.event.specs.Choice.{pick}
 use Rattle.sheet.proofs.WalkLaws.{cell_found, cell_open}
-use Rattle.sheet.proofs.LoneLaws.{remark_several, open_several, cells-several, lone-among, lone-last}
+use Rattle.sheet.proofs.LoneLaws.{remark_several, open_several, cells_several, lone_among, lone_last}
 use mathlib.Core.Path.{sym, ◌∙◌}
 use borrow.Author.Rules.{rules}
 use Rattle.sheet.proofs.lines.lone_cell.Statement.{statement}
@@ -33,7 +33,7 @@ returns-3 : tie.Need-returns-3
 unfolding LoneWithin seen pick
 returns-3 c =
     let k = cell_found _ _ _ _ _ c.before.before.before.before.Cell-at.ensures _ c.before.before.cell.given.1 in
-    lone-last c.before.before.before.before.before.before.before.before.args.sep c.before.before.before.before.before.before.before.before.args.line.now k (sym c.before.before.before.before.before.before.is-remark-line.ensures ∙ c.before.before.before.before.before.if1.false) c.if2.true
+    lone_last c.before.before.before.before.before.before.before.before.args.sep c.before.before.before.before.before.before.before.before.args.line.now k (sym c.before.before.before.before.before.before.is-remark-line.ensures ∙ c.before.before.before.before.before.if1.false) c.if2.true
 
 add-are-empty : tie.Need-overflow-add-are-empty
 add-are-empty c = search rules
@@ -45,13 +45,13 @@ returns-4 : tie.Need-returns-4
 unfolding LoneWithin seen pick
 returns-4 c =
     let k = cell_found _ _ _ _ _ c.before.before.before.before.before.before.Cell-at.ensures _ c.before.before.before.before.cell.given.1 in
-    lone-among c.before.before.before.before.before.before.before.before.before.before.args.sep c.before.before.before.before.before.before.before.before.before.before.args.line.now k (sym c.before.before.before.before.before.before.before.before.is-remark-line.ensures ∙ c.before.before.before.before.before.before.before.if1.false) c.before.before.if2.false (sym c.before.are-empty.ensures ∙ c.if3.true)
+    lone_among c.before.before.before.before.before.before.before.before.before.before.args.sep c.before.before.before.before.before.before.before.before.before.before.args.line.now k (sym c.before.before.before.before.before.before.before.before.is-remark-line.ensures ∙ c.before.before.before.before.before.before.before.if1.false) c.before.before.if2.false (sym c.before.are-empty.ensures ∙ c.if3.true)
 
 returns-5 : tie.Need-returns-5
 unfolding LoneWithin seen pick
 returns-5 c =
     let k = cell_found _ _ _ _ _ c.before.before.before.before.before.before.Cell-at.ensures _ c.before.before.before.before.cell.given.1 in
-    (cells-several c.before.before.before.before.before.before.before.before.before.before.args.sep c.before.before.before.before.before.before.before.before.before.before.args.line.now k c.before.before.if2.false (sym c.before.are-empty.ensures ∙ c.if3.false), tt)
+    (cells_several c.before.before.before.before.before.before.before.before.before.before.args.sep c.before.before.before.before.before.before.before.before.before.before.args.line.now k c.before.before.if2.false (sym c.before.are-empty.ensures ∙ c.if3.false), tt)
 
 pub lone-cell-spec : {M : Type 1} → statement M
 lone-cell-spec =

@@ -1,6 +1,6 @@
 use Prim.Native.Nat.{◌-◌}
 use lib.ListN.{length}
-use Rattle.sheet.proofs.WalkLaws.{cell_found, cell_open, Looking, looking_first, looking_open, looking-last, looking-on}
+use Rattle.sheet.proofs.WalkLaws.{cell_found, cell_open, Looking, looking_first, looking_open, looking_last, looking_on}
 use native.Mathlib.Omega.{arith}
 use borrow.Author.Rules.{rules}
 use Rattle.sheet.proofs.rows.look.Statement.{statement}
@@ -44,7 +44,7 @@ with-cell-requires c κs = omega (arith, c.before.before.before.before.before.lo
 returns-2 : tie.Need-returns-2 invariant-loop decreases-loop
 returns-2 c =
     let k = cell_found _ _ _ _ _ c.before.before.before.before.before.before.Cell-at.ensures _ c.before.before.before.before.cell.given.1 in
-    looking-last c.before.before.before.before.before.before.before.loop.invariant c.before.with_cell.result k c.before.with_cell.ensures c.if1.true
+    looking_last c.before.before.before.before.before.before.before.loop.invariant c.before.with_cell.result k c.before.with_cell.ensures c.if1.true
 
 after-byte-requires : tie.Need-after-byte-requires invariant-loop decreases-loop
 after-byte-requires c κs = c.if1.false
@@ -57,7 +57,7 @@ loop-less c =
 loop-again : tie.Need-loop-preserved invariant-loop decreases-loop
 loop-again c =
     let k = cell_found _ _ _ _ _ c.before.before.before.before.before.before.before.Cell-at.ensures _ c.before.before.before.before.before.cell.given.1 in
-    looking-on c.before.before.before.before.before.before.before.before.loop.invariant c.before.before.with_cell.result k c.before.before.with_cell.ensures c.after-byte.ensures
+    looking_on c.before.before.before.before.before.before.before.before.loop.invariant c.before.before.with_cell.result k c.before.before.with_cell.ensures c.after-byte.ensures
 
 pub look_spec : {M : Type 1} → statement M
 look_spec =

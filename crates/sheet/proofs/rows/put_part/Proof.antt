@@ -1,5 +1,5 @@
 use Rattle.event.specs.Choice.{pick}
-use Rattle.sheet.proofs.PartLaws.{remark_part, uncut-part, cells-counted, cells-fielded, cells-part}
+use Rattle.sheet.proofs.PartLaws.{remark_part, uncut_part, cells_counted, cells_fielded, cells_part}
 use Rattle.sheet.proofs.StandLaws.{stands_part}
 use mathlib.Core.Path.{sym, ◌∙◌}
 use borrow.Author.Rules.{rules}
@@ -44,22 +44,22 @@ returns-2 : tie.Need-returns-2
 returns-2 c = rw (← stands_part _ _ _ _ c.before.before.before.before.before.before.before.before.before.look.ensures _ c.before.before.before.before.before.before.before.row.given.1 (sym c.before.before.before.before.before.before.before.before.before.before.before.is-remark-line.ensures ∙ c.before.before.before.before.before.before.before.before.before.before.if1.false) (sym c.before.before.before.before.before.stands.ensures ∙ c.before.before.before.before.if2.true)) c.before.before.put-bytes.ensures
 
 field-count-requires : tie.Need-field-count-requires
-field-count-requires c κs = cells-counted _ _ _ _ c.before.before.before.before.before.look.ensures _ c.before.before.before.row.given.1 c.before.before.before.before.before.before.before.before.before.before.requires.1
+field-count-requires c κs = cells_counted _ _ _ _ c.before.before.before.before.before.look.ensures _ c.before.before.before.row.given.1 c.before.before.before.before.before.before.before.before.before.before.requires.1
 
 put-row-requires : tie.Need-put-row-requires
-put-row-requires c κs = (c.before.before.before.before.before.before.before.before.before.before.before.before.requires.0, (c.before.before.before.before.before.before.before.before.before.before.before.before.requires.1, cells-fielded _ _ _ _ c.before.before.before.before.before.before.before.look.ensures _ c.before.before.before.before.before.row.given.1 _ c.before.field-count.ensures))
+put-row-requires c κs = (c.before.before.before.before.before.before.before.before.before.before.before.before.requires.0, (c.before.before.before.before.before.before.before.before.before.before.before.before.requires.1, cells_fielded _ _ _ _ c.before.before.before.before.before.before.before.look.ensures _ c.before.before.before.before.before.row.given.1 _ c.before.field-count.ensures))
 
 same-length-3 : tie.Need-same-length-3
 same-length-3 c = search rules
 
 returns-3 : tie.Need-returns-3
-returns-3 c = rw (← uncut-part _ _ _ _ c.before.before.before.before.before.before.look.ensures (sym c.before.before.before.before.before.before.before.before.is-remark-line.ensures ∙ c.before.before.before.before.before.before.before.if1.false) c.before.before.before.before.enum_told.given.1) c.before.before.put_byte.ensures
+returns-3 c = rw (← uncut_part _ _ _ _ c.before.before.before.before.before.before.look.ensures (sym c.before.before.before.before.before.before.before.before.is-remark-line.ensures ∙ c.before.before.before.before.before.before.before.if1.false) c.before.before.before.before.enum_told.given.1) c.before.before.put_byte.ensures
 
 same-length-4 : tie.Need-same-length-4
 same-length-4 c = search rules
 
 returns-4 : tie.Need-returns-4
-returns-4 c = rw (← cells-part _ _ _ _ c.before.before.before.before.before.before.before.before.before.before.look.ensures _ c.before.before.before.before.before.before.before.before.row.given.1 _ c.before.before.before.before.field-count.ensures (sym c.before.before.before.before.before.before.before.before.before.before.before.before.is-remark-line.ensures ∙ c.before.before.before.before.before.before.before.before.before.before.before.if1.false)) c.before.before.put-row.ensures
+returns-4 c = rw (← cells_part _ _ _ _ c.before.before.before.before.before.before.before.before.before.before.look.ensures _ c.before.before.before.before.before.before.before.before.row.given.1 _ c.before.before.before.before.field-count.ensures (sym c.before.before.before.before.before.before.before.before.before.before.before.before.is-remark-line.ensures ∙ c.before.before.before.before.before.before.before.before.before.before.before.if1.false)) c.before.before.put-row.ensures
 
 pub put-part-spec : {M : Type 1} → statement M
 put-part-spec =

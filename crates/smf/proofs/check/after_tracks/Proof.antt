@@ -1,7 +1,7 @@
 use Prim.Native.Nat.{◌-◌}
 use lib.ListN.{length}
 use Rattle.event.proofs.BytesLaws.{bytes_of}
-use Rattle.smf.proofs.VerdictLaws.{Behind, behind_end, behind_few, behind-track, behind-long, behind-pass}
+use Rattle.smf.proofs.VerdictLaws.{Behind, behind_end, behind_few, behind_track, behind_long, behind_pass}
 use native.Mathlib.Omega.{arith}
 use mathlib.Core.Path.{◌≡◌, refl, sym, ◌∙◌}
 use borrow.Author.Rules.{rules}
@@ -33,7 +33,7 @@ refusal-requires-2 : tie.Need-refusal-requires-2 invariant-loop decreases-loop
 refusal-requires-2 c κs = search rules
 
 returns-2 : tie.Need-returns-2 invariant-loop decreases-loop
-returns-2 c = c.refusal2.ensures ∙ behind-track c.before.before.before.before.before.before.before.args.file.now c.before.before.before.before.before.loop.at c.before.before.before.before.loop-test.true (omega arith) c.before.before.four-byte-number.result c.before.before.four-byte-number.ensures c.before.if2.true ∙ c.before.before.before.before.before.loop.invariant
+returns-2 c = c.refusal2.ensures ∙ behind_track c.before.before.before.before.before.before.before.args.file.now c.before.before.before.before.before.loop.at c.before.before.before.before.loop-test.true (omega arith) c.before.before.four-byte-number.result c.before.before.four-byte-number.ensures c.before.if2.true ∙ c.before.before.before.before.before.loop.invariant
 
 add_start : tie.Need-overflow-add-start invariant-loop decreases-loop
 add_start c = search rules
@@ -54,7 +54,7 @@ refusal-requires-3 : tie.Need-refusal-requires-3 invariant-loop decreases-loop
 refusal-requires-3 c κs = search rules
 
 returns-3 : tie.Need-returns-3 invariant-loop decreases-loop
-returns-3 c = c.refusal3.ensures ∙ behind-long c.before.before.before.before.before.before.before.before.before.args.file.now c.before.before.before.before.before.before.before.loop.at c.before.before.before.before.before.before.loop-test.true (omega arith) c.before.before.before.before.four-byte-number.result c.before.before.before.before.four-byte-number.ensures c.before.before.before.if2.false c.before.before.four-byte-number2.result c.before.before.four-byte-number2.ensures c.before.if3.true ∙ c.before.before.before.before.before.before.before.loop.invariant
+returns-3 c = c.refusal3.ensures ∙ behind_long c.before.before.before.before.before.before.before.before.before.args.file.now c.before.before.before.before.before.before.before.loop.at c.before.before.before.before.before.before.loop-test.true (omega arith) c.before.before.before.before.four-byte-number.result c.before.before.before.before.four-byte-number.ensures c.before.before.before.if2.false c.before.before.four-byte-number2.result c.before.before.four-byte-number2.ensures c.before.if3.true ∙ c.before.before.before.before.before.before.before.loop.invariant
 
 add_at : tie.Need-overflow-add-at invariant-loop decreases-loop
 add_at c = search rules
@@ -64,7 +64,7 @@ loop-less c = omega arith
 
 loop-again : tie.Need-loop-preserved invariant-loop decreases-loop
 loop-again c = let s = c.before.before.before.before.before.before.before.before.args.file.now in
-    sym (behind-pass s c.before.before.before.before.before.before.loop.at c.before.before.before.before.before.loop-test.true (omega arith) c.before.before.before.four-byte-number.result c.before.before.before.four-byte-number.ensures c.before.before.if2.false c.before.four-byte-number2.result c.before.four-byte-number2.ensures (bytes_of s (λ i. omega (arith, c.before.before.before.before.before.before.before.shared-slice-known.given i))) (omega arith)) ∙ c.before.before.before.before.before.before.loop.invariant
+    sym (behind_pass s c.before.before.before.before.before.before.loop.at c.before.before.before.before.before.loop-test.true (omega arith) c.before.before.before.four-byte-number.result c.before.before.before.four-byte-number.ensures c.before.before.if2.false c.before.four-byte-number2.result c.before.four-byte-number2.ensures (bytes_of s (λ i. omega (arith, c.before.before.before.before.before.before.before.shared-slice-known.given i))) (omega arith)) ∙ c.before.before.before.before.before.before.loop.invariant
 
 success-requires : tie.Need-success-requires invariant-loop decreases-loop
 success-requires c κs = search rules

@@ -1,6 +1,6 @@
 use Rattle.event.proofs.BytesLaws.{bytes_of}
 use Rattle.smf.proofs.DemandLaws.{judged}
-use Rattle.smf.proofs.VerdictLaws.{head_at, file_long, file_head, file-tracks, file-behind}
+use Rattle.smf.proofs.VerdictLaws.{head_at, file_long, file_head, file_tracks, file_behind}
 use native.Mathlib.Omega.{arith}
 use mathlib.Core.Path.{sym, ◌∙◌}
 use borrow.Author.Rules.{rules}
@@ -58,7 +58,7 @@ returns-3 c = let s = c.before.before.before.before.before.before.before.before.
     let g = c.before.before.before.before.before.before.format.given in
     let came = sym c.before.before.before.before.before.before.before.before.read-header.ensures ∙ g.1 in
     let k = c.before.before.number2.given in
-    judged s _ bytes (c.refusal3.ensures ∙ file-tracks s c.before.before.before.before.before.before.before.before.before.if1.false bytes g.0.0 g.0.1.0 g.0.1.1.0 g.0.1.1.1.0 came k.0.0 k.0.1.0 (sym c.before.before.before.before.read-tracks.ensures ∙ k.1))
+    judged s _ bytes (c.refusal3.ensures ∙ file_tracks s c.before.before.before.before.before.before.before.before.before.if1.false bytes g.0.0 g.0.1.0 g.0.1.1.0 g.0.1.1.1.0 came k.0.0 k.0.1.0 (sym c.before.before.before.before.read-tracks.ensures ∙ k.1))
 
 returns-4 : tie.Need-returns-4
 returns-4 c = let s = c.before.before.before.before.before.before.before.before.before.before.before.args.file.now in
@@ -66,7 +66,7 @@ returns-4 c = let s = c.before.before.before.before.before.before.before.before.
     let g = c.before.before.before.before.before.before.format.given in
     let came = sym c.before.before.before.before.before.before.before.before.read-header.ensures ∙ g.1 in
     let k = c.before.before.end.given in
-    judged s _ bytes (c.after-tracks.ensures ∙ file-behind s c.before.before.before.before.before.before.before.before.before.if1.false bytes g.0.0 g.0.1.0 g.0.1.1.0 g.0.1.1.1.0 came k.0.0 (sym c.before.before.before.before.read-tracks.ensures ∙ k.1))
+    judged s _ bytes (c.after-tracks.ensures ∙ file_behind s c.before.before.before.before.before.before.before.before.before.if1.false bytes g.0.0 g.0.1.0 g.0.1.1.0 g.0.1.1.1.0 came k.0.0 (sym c.before.before.before.before.read-tracks.ensures ∙ k.1))
 
 pub check-spec : {M : Type 1} → statement M
 check-spec =

@@ -1,7 +1,7 @@
 use Prim.Native.Nat.{◌+◌}
 use Rattle.event.proofs.BytesLaws.{bytes_of}
 use Rattle.smf.specs.declared.HeaderStep.TheVariants.{Fields}
-use Rattle.smf.proofs.HeaderLaws.{head_short, head-tag, head_size, head-past, head-format, head-count, head-division, head-fine, two_bytes}
+use Rattle.smf.proofs.HeaderLaws.{head_short, head_tag, head_size, head_past, head_format, head_count, head_division, head_fine, two_bytes}
 use native.Mathlib.Omega.{arith}
 use mathlib.Core.Path.{sym, ap, ◌∙◌}
 use borrow.Author.Rules.{rules}
@@ -21,7 +21,7 @@ bad-requires-2 : tie.Need-bad-requires-2
 bad-requires-2 c κs = search rules
 
 returns-2 : tie.Need-returns-2
-returns-2 c = c.bad2.ensures ∙ head-tag c.before.before.before.before.before.args.file.now c.before.before.before.if1.false c.before.before.four-byte-number.result c.before.before.four-byte-number.ensures c.before.if2.true
+returns-2 c = c.bad2.ensures ∙ head_tag c.before.before.before.before.before.args.file.now c.before.before.before.if1.false c.before.before.four-byte-number.result c.before.before.four-byte-number.ensures c.before.if2.true
 
 four-byte-number-requires-2 : tie.Need-four-byte-number-requires-2
 four-byte-number-requires-2 c κs = search rules
@@ -42,7 +42,7 @@ bad-requires-4 : tie.Need-bad-requires-4
 bad-requires-4 c κs = search rules
 
 returns-4 : tie.Need-returns-4
-returns-4 c = c.bad4.ensures ∙ head-past c.before.before.before.before.before.before.before.before.args.file.now c.before.before.before.before.before.before.if1.false c.before.before.before.before.before.four-byte-number.result c.before.before.before.before.before.four-byte-number.ensures c.before.before.before.before.if2.false c.before.before.before.four-byte-number2.result c.before.before.before.four-byte-number2.ensures c.before.before.if3.false c.before.if4.true
+returns-4 c = c.bad4.ensures ∙ head_past c.before.before.before.before.before.before.before.before.args.file.now c.before.before.before.before.before.before.if1.false c.before.before.before.before.before.four-byte-number.result c.before.before.before.before.before.four-byte-number.ensures c.before.before.before.before.if2.false c.before.before.before.four-byte-number2.result c.before.before.before.four-byte-number2.ensures c.before.before.if3.false c.before.if4.true
 
 two-byte-number-requires : tie.Need-two-byte-number-requires
 two-byte-number-requires c κs = search rules
@@ -51,7 +51,7 @@ bad-requires-5 : tie.Need-bad-requires-5
 bad-requires-5 c κs = search rules
 
 returns-5 : tie.Need-returns-5
-returns-5 c = c.bad5.ensures ∙ head-format c.before.before.before.before.before.before.before.before.before.before.args.file.now c.before.before.before.before.before.before.before.before.if1.false c.before.before.before.before.before.before.before.four-byte-number.result c.before.before.before.before.before.before.before.four-byte-number.ensures c.before.before.before.before.before.before.if2.false c.before.before.before.before.before.four-byte-number2.result c.before.before.before.before.before.four-byte-number2.ensures c.before.before.before.before.if3.false (omega arith) c.before.before.two-byte-number.result c.before.before.two-byte-number.ensures c.before.if5.true
+returns-5 c = c.bad5.ensures ∙ head_format c.before.before.before.before.before.before.before.before.before.before.args.file.now c.before.before.before.before.before.before.before.before.if1.false c.before.before.before.before.before.before.before.four-byte-number.result c.before.before.before.before.before.before.before.four-byte-number.ensures c.before.before.before.before.before.before.if2.false c.before.before.before.before.before.four-byte-number2.result c.before.before.before.before.before.four-byte-number2.ensures c.before.before.before.before.if3.false (omega arith) c.before.before.two-byte-number.result c.before.before.two-byte-number.ensures c.before.if5.true
 
 two-byte-number-requires-2 : tie.Need-two-byte-number-requires-2
 two-byte-number-requires-2 c κs = search rules
@@ -74,19 +74,19 @@ add-t14 c = search rules
 
 returns-6 : tie.Need-returns-6
 returns-6 c = let s = c.before.before.before.before.before.before.before.before.before.before.before.before.before.before.before.before.args.file.now in
-    ap (λ d. Fields c.before.before.before.before.before.before.before.before.two-byte-number.result c.before.before.before.before.before.before.two-byte-number2.result d (8 + c.before.before.before.before.before.before.before.before.before.before.before.four-byte-number2.result)) c.division-of.ensures ∙ head-fine s c.before.before.before.before.before.before.before.before.before.before.before.before.before.before.if1.false c.before.before.before.before.before.before.before.before.before.before.before.before.before.four-byte-number.result c.before.before.before.before.before.before.before.before.before.before.before.before.before.four-byte-number.ensures c.before.before.before.before.before.before.before.before.before.before.before.before.if2.false c.before.before.before.before.before.before.before.before.before.before.before.four-byte-number2.result c.before.before.before.before.before.before.before.before.before.before.before.four-byte-number2.ensures c.before.before.before.before.before.before.before.before.before.before.if3.false (omega arith) c.before.before.before.before.before.before.before.before.two-byte-number.result c.before.before.before.before.before.before.before.before.two-byte-number.ensures c.before.before.before.before.before.before.before.if5.false c.before.before.before.before.before.before.two-byte-number2.result c.before.before.before.before.before.before.two-byte-number2.ensures (sym c.before.before.before.before.before.count-ok.ensures ∙ c.before.before.before.before.if6.true) c.before.before.before.two-byte-number3.result c.before.before.before.two-byte-number3.ensures (sym c.before.before.division-ok.ensures ∙ c.before.if7.true)
+    ap (λ d. Fields c.before.before.before.before.before.before.before.before.two-byte-number.result c.before.before.before.before.before.before.two-byte-number2.result d (8 + c.before.before.before.before.before.before.before.before.before.before.before.four-byte-number2.result)) c.division-of.ensures ∙ head_fine s c.before.before.before.before.before.before.before.before.before.before.before.before.before.before.if1.false c.before.before.before.before.before.before.before.before.before.before.before.before.before.four-byte-number.result c.before.before.before.before.before.before.before.before.before.before.before.before.before.four-byte-number.ensures c.before.before.before.before.before.before.before.before.before.before.before.before.if2.false c.before.before.before.before.before.before.before.before.before.before.before.four-byte-number2.result c.before.before.before.before.before.before.before.before.before.before.before.four-byte-number2.ensures c.before.before.before.before.before.before.before.before.before.before.if3.false (omega arith) c.before.before.before.before.before.before.before.before.two-byte-number.result c.before.before.before.before.before.before.before.before.two-byte-number.ensures c.before.before.before.before.before.before.before.if5.false c.before.before.before.before.before.before.two-byte-number2.result c.before.before.before.before.before.before.two-byte-number2.ensures (sym c.before.before.before.before.before.count-ok.ensures ∙ c.before.before.before.before.if6.true) c.before.before.before.two-byte-number3.result c.before.before.before.two-byte-number3.ensures (sym c.before.before.division-ok.ensures ∙ c.before.if7.true)
 
 bad-requires-6 : tie.Need-bad-requires-6
 bad-requires-6 c κs = search rules
 
 returns-7 : tie.Need-returns-7
-returns-7 c = c.bad6.ensures ∙ head-division c.before.before.before.before.before.before.before.before.before.before.before.before.before.before.before.before.args.file.now c.before.before.before.before.before.before.before.before.before.before.before.before.before.before.if1.false c.before.before.before.before.before.before.before.before.before.before.before.before.before.four-byte-number.result c.before.before.before.before.before.before.before.before.before.before.before.before.before.four-byte-number.ensures c.before.before.before.before.before.before.before.before.before.before.before.before.if2.false c.before.before.before.before.before.before.before.before.before.before.before.four-byte-number2.result c.before.before.before.before.before.before.before.before.before.before.before.four-byte-number2.ensures c.before.before.before.before.before.before.before.before.before.before.if3.false (omega arith) c.before.before.before.before.before.before.before.before.two-byte-number.result c.before.before.before.before.before.before.before.before.two-byte-number.ensures c.before.before.before.before.before.before.before.if5.false c.before.before.before.before.before.before.two-byte-number2.result c.before.before.before.before.before.before.two-byte-number2.ensures (sym c.before.before.before.before.before.count-ok.ensures ∙ c.before.before.before.before.if6.true) c.before.before.before.two-byte-number3.result c.before.before.before.two-byte-number3.ensures (sym c.before.before.division-ok.ensures ∙ c.before.if7.false)
+returns-7 c = c.bad6.ensures ∙ head_division c.before.before.before.before.before.before.before.before.before.before.before.before.before.before.before.before.args.file.now c.before.before.before.before.before.before.before.before.before.before.before.before.before.before.if1.false c.before.before.before.before.before.before.before.before.before.before.before.before.before.four-byte-number.result c.before.before.before.before.before.before.before.before.before.before.before.before.before.four-byte-number.ensures c.before.before.before.before.before.before.before.before.before.before.before.before.if2.false c.before.before.before.before.before.before.before.before.before.before.before.four-byte-number2.result c.before.before.before.before.before.before.before.before.before.before.before.four-byte-number2.ensures c.before.before.before.before.before.before.before.before.before.before.if3.false (omega arith) c.before.before.before.before.before.before.before.before.two-byte-number.result c.before.before.before.before.before.before.before.before.two-byte-number.ensures c.before.before.before.before.before.before.before.if5.false c.before.before.before.before.before.before.two-byte-number2.result c.before.before.before.before.before.before.two-byte-number2.ensures (sym c.before.before.before.before.before.count-ok.ensures ∙ c.before.before.before.before.if6.true) c.before.before.before.two-byte-number3.result c.before.before.before.two-byte-number3.ensures (sym c.before.before.division-ok.ensures ∙ c.before.if7.false)
 
 bad-requires-7 : tie.Need-bad-requires-7
 bad-requires-7 c κs = search rules
 
 returns-8 : tie.Need-returns-8
-returns-8 c = c.bad7.ensures ∙ head-count c.before.before.before.before.before.before.before.before.before.before.before.before.before.args.file.now c.before.before.before.before.before.before.before.before.before.before.before.if1.false c.before.before.before.before.before.before.before.before.before.before.four-byte-number.result c.before.before.before.before.before.before.before.before.before.before.four-byte-number.ensures c.before.before.before.before.before.before.before.before.before.if2.false c.before.before.before.before.before.before.before.before.four-byte-number2.result c.before.before.before.before.before.before.before.before.four-byte-number2.ensures c.before.before.before.before.before.before.before.if3.false (omega arith) c.before.before.before.before.before.two-byte-number.result c.before.before.before.before.before.two-byte-number.ensures c.before.before.before.before.if5.false c.before.before.before.two-byte-number2.result c.before.before.before.two-byte-number2.ensures (sym c.before.before.count-ok.ensures ∙ c.before.if6.false)
+returns-8 c = c.bad7.ensures ∙ head_count c.before.before.before.before.before.before.before.before.before.before.before.before.before.args.file.now c.before.before.before.before.before.before.before.before.before.before.before.if1.false c.before.before.before.before.before.before.before.before.before.before.four-byte-number.result c.before.before.before.before.before.before.before.before.before.before.four-byte-number.ensures c.before.before.before.before.before.before.before.before.before.if2.false c.before.before.before.before.before.before.before.before.four-byte-number2.result c.before.before.before.before.before.before.before.before.four-byte-number2.ensures c.before.before.before.before.before.before.before.if3.false (omega arith) c.before.before.before.before.before.two-byte-number.result c.before.before.before.before.before.two-byte-number.ensures c.before.before.before.before.if5.false c.before.before.before.two-byte-number2.result c.before.before.before.two-byte-number2.ensures (sym c.before.before.count-ok.ensures ∙ c.before.if6.false)
 
 pub read-header-spec : {M : Type 1} → statement M
 read-header-spec =

@@ -4,7 +4,7 @@ use Rattle.smf.specs.Listing.{end_times, event_counts, paddings_in}
 use Rattle.smf.proofs.VerdictLaws.{head_at}
 use Rattle.smf.proofs.RefusalLaws.{judged_readable}
 use Rattle.smf.proofs.AcceptedLaws.{header_there, file_accepted}
-use Rattle.smf.proofs.ListLaws.{list_refused, refused_leaves, accepted_readable, short-answer, short_leaves_lem, fine-answer, fine-leaves, fine-paddings, length_times, length_counts, room_yes, room_first, room_second, room_third}
+use Rattle.smf.proofs.ListLaws.{list_refused, refused_leaves, accepted_readable, short_answer_lem, short_leaves_lem, fine_answer, fine_leaves, fine_paddings, length_times, length_counts, room_yes, room_first, room_second, room_third}
 use Rattle.smf.proofs.ListAnswerLaws.{told_by}
 use native.Mathlib.Omega.{arith}
 use mathlib.Core.Path.{sym, ◌∙◌}
@@ -63,7 +63,7 @@ returns-2 c = let a = c.before.before.before.before.before.before.before.before.
     let at = g.0.1.1.1.0 in
     let short = room_first n m o b c.before.if2.true in
     let left = short_leaves_lem s b at there n m o short in
-    let answer = c.room-needed.ensures ∙ short-answer s b at there n m o short in
+    let answer = c.room-needed.ensures ∙ short_answer_lem s b at there n m o short in
     let third = left (paddings_in s) a.padding.now in
     (answer, (left end_times a.ends.now, (left event_counts a.counts.now, (third, told_by s bytes n m o a.padding.now _ _ answer third))))
 
@@ -86,7 +86,7 @@ returns-3 c = let a = c.before.before.before.before.before.before.before.before.
     let at = g.0.1.1.1.0 in
     let short = room_second n m o b c.before.before.if2.false c.before.if3.true in
     let left = short_leaves_lem s b at there n m o short in
-    let answer = c.room-needed2.ensures ∙ short-answer s b at there n m o short in
+    let answer = c.room-needed2.ensures ∙ short_answer_lem s b at there n m o short in
     let third = left (paddings_in s) a.padding.now in
     (answer, (left end_times a.ends.now, (left event_counts a.counts.now, (third, told_by s bytes n m o a.padding.now _ _ answer third))))
 
@@ -109,7 +109,7 @@ returns-4 c = let a = c.before.before.before.before.before.before.before.before.
     let at = g.0.1.1.1.0 in
     let short = room_third n m o b c.before.before.before.if2.false c.before.before.if3.false c.before.if4.true in
     let left = short_leaves_lem s b at there n m o short in
-    let answer = c.room-needed3.ensures ∙ short-answer s b at there n m o short in
+    let answer = c.room-needed3.ensures ∙ short_answer_lem s b at there n m o short in
     let third = left (paddings_in s) a.padding.now in
     (answer, (left end_times a.ends.now, (left event_counts a.counts.now, (third, told_by s bytes n m o a.padding.now _ _ answer third))))
 
@@ -173,9 +173,9 @@ returns-6 c = let a = c.before.before.before.before.before.before.before.before.
     let three = c.before.before.before.before.before.before.before.before.before.before.before.if4.false in
     let fits = room_yes n m o b one two three in
     let filled = c.before.before.before.before.before.before.before.fill.ensures in
-    let fine = fine-leaves s b at there n m o fits in
-    let answer = c.success.ensures ∙ fine-answer s b at there n m o fits in
-    let third = filled.1.1 ∙ fine-paddings s b at there n m o fits g.0.0 g.0.1.1.0 a.padding.now bytes came three in
+    let fine = fine_leaves s b at there n m o fits in
+    let answer = c.success.ensures ∙ fine_answer s b at there n m o fits in
+    let third = filled.1.1 ∙ fine_paddings s b at there n m o fits g.0.0 g.0.1.1.0 a.padding.now bytes came three in
     (answer, (filled.0 ∙ fine end_times a.ends.now length_times one, (filled.1.0 ∙ fine event_counts a.counts.now length_counts two, (third, told_by s bytes n m o a.padding.now _ _ answer third))))
 
 pub list-tracks-spec : {M : Type 1} → statement M

@@ -3,7 +3,7 @@ use lib.ListN.{length, drop}
 use Rattle.event.proofs.BytesLaws.{bytes_of}
 use Rattle.smf.specs.Reader.{read_chunk}
 use Rattle.smf.specs.Step.{chunk_step}
-use Rattle.smf.proofs.ChunkLaws.{chunk_short, chunk-long, chunk-fine, chunk-pass}
+use Rattle.smf.proofs.ChunkLaws.{chunk_short, chunk_long, chunk_fine, chunk_pass}
 use native.Mathlib.Omega.{arith}
 use mathlib.Core.Path.{◌≡◌, refl, sym, ◌∙◌}
 use borrow.Author.Rules.{rules}
@@ -53,7 +53,7 @@ cut-requires-3 : tie.Need-cut-requires-3 invariant-loop decreases-loop
 cut-requires-3 c κs = search rules
 
 returns-3 : tie.Need-returns-3 invariant-loop decreases-loop
-returns-3 c = c.cut3.ensures ∙ chunk-long c.before.before.before.before.before.before.before.args.file.now c.before.before.before.before.before.loop.at (omega arith) _ refl c.before.before.four-byte-number.result c.before.before.four-byte-number.ensures c.before.if3.true ∙ c.before.before.before.before.before.loop.invariant
+returns-3 c = c.cut3.ensures ∙ chunk_long c.before.before.before.before.before.before.before.args.file.now c.before.before.before.before.before.loop.at (omega arith) _ refl c.before.before.four-byte-number.result c.before.before.four-byte-number.ensures c.before.if3.true ∙ c.before.before.before.before.before.loop.invariant
 
 add-end : tie.Need-overflow-add-end invariant-loop decreases-loop
 add-end c = search rules
@@ -62,14 +62,14 @@ four-byte-number-requires-2 : tie.Need-four-byte-number-requires-2 invariant-loo
 four-byte-number-requires-2 c κs = search rules
 
 returns-4 : tie.Need-returns-4 invariant-loop decreases-loop
-returns-4 c = chunk-fine c.before.before.before.before.before.before.before.before.args.file.now c.before.before.before.before.before.before.loop.at (omega arith) c.before.four-byte-number2.result c.before.four-byte-number2.ensures c.before.before.before.four-byte-number.result c.before.before.before.four-byte-number.ensures (omega arith) c.if4.true ∙ c.before.before.before.before.before.before.loop.invariant
+returns-4 c = chunk_fine c.before.before.before.before.before.before.before.before.args.file.now c.before.before.before.before.before.before.loop.at (omega arith) c.before.four-byte-number2.result c.before.four-byte-number2.ensures c.before.before.before.four-byte-number.result c.before.before.before.four-byte-number.ensures (omega arith) c.if4.true ∙ c.before.before.before.before.before.before.loop.invariant
 
 loop-less : tie.Need-loop-smaller invariant-loop decreases-loop
 loop-less c = omega arith
 
 loop-again : tie.Need-loop-preserved invariant-loop decreases-loop
 loop-again c = let s = c.before.before.before.before.before.before.before.before.args.file.now in
-    sym (chunk-pass s c.before.before.before.before.before.before.loop.at (omega arith) c.before.four-byte-number2.result c.before.four-byte-number2.ensures c.before.before.before.four-byte-number.result c.before.before.before.four-byte-number.ensures (omega arith) (bytes_of s (λ i. omega (arith, c.before.before.before.before.before.before.before.shared-slice-known.given i))) c.if4.false) ∙ c.before.before.before.before.before.before.loop.invariant
+    sym (chunk_pass s c.before.before.before.before.before.before.loop.at (omega arith) c.before.four-byte-number2.result c.before.four-byte-number2.ensures c.before.before.before.four-byte-number.result c.before.before.before.four-byte-number.ensures (omega arith) (bytes_of s (λ i. omega (arith, c.before.before.before.before.before.before.before.shared-slice-known.given i))) c.if4.false) ∙ c.before.before.before.before.before.before.loop.invariant
 
 pub next-track-spec : {M : Type 1} → statement M
 next-track-spec =
