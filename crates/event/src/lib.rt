@@ -1,4 +1,6 @@
 // Numbers, Times and events: one event of a track, read from its bytes.
+#![tactic(auto)]
+
 ghost use Rattle.std.specs.Prelude.{◌≡◌};
 ghost use Rattle.event.specs.Dates.{later_of, since_of};
 

@@ -1,4 +1,6 @@
 // Many tracks into one.
+#![tactic(auto)]
+
 ghost use Rattle.std.specs.Prelude.{◌≡◌, length};
 ghost use Rattle.smf.specs.PlacedFile.{placed_file};
 ghost use Rattle.fold_piece.specs.FoldAnswer.{fold_answer, fold_leaves, fold_outcome, rows_lent, rows_leave, place_shown, time_shown, status_shown};

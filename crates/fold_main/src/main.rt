@@ -1,4 +1,6 @@
 // Folds a few files with lent rows: the C face of fold has rows of its own, so they are seen here only.
+#![tactic(auto)]
+
 use libc::STDOUT_FILENO;
 
 fn number(n: u64) {

@@ -1,4 +1,6 @@
 // Lists the tracks of a few files: list_tracks has no C face, so it is run here.
+#![tactic(auto)]
+
 use libc::STDOUT_FILENO;
 
 fn number(n: u64) {

@@ -1,4 +1,6 @@
 // Runs what midi2csv runs on further files: refusals, and files at its limits and past them.
+#![tactic(auto)]
+
 use libc::STDOUT_FILENO;
 
 fn convert_file(path: &[u8]) {

@@ -1,5 +1,7 @@
 // The program midi2csv, but for what it reads from. It stands in a library so that the tests run the
 // same code on further files: a program has one standard input to be tested on.
+#![tactic(auto)]
+
 ghost use Rattle.std.specs.Prelude.{◌≡◌, ◌≤◌, length};
 ghost use Rattle.midi2csv_io.specs.Program.{program_answer, program_leaves};
 

@@ -1,4 +1,6 @@
 // The text side: fields and names of records written, in a text or in a sheet; bytes and words.
+#![tactic(auto)]
+
 pub mod byte; // byte.rt: kinds of bytes
 pub mod word; // word.rt: words compared
 mod truth; // truth.rt: the words that spreadsheets take for booleans

@@ -1,4 +1,6 @@
 // Text to file.
+#![tactic(auto)]
+
 mod write_row; // write_row.rt: a row's event written
 mod order; // order.rt: records in their order
 pub mod to_file; // to_file.rt: text to file

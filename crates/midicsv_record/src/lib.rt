@@ -1,4 +1,6 @@
 // A line's record: its name, its numbers, and where its Text or Data stand.
+#![tactic(auto)]
+
 mod name; // name.rt: the names of records
 mod table; // table.rt: the columns and the tail of each record
 pub mod text; // text.rt: a quoted text beside a word

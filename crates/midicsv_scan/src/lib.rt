@@ -1,4 +1,6 @@
 // A line's fields: where they stand and what they are.
+#![tactic(auto)]
+
 mod number; // number.rt: numbers
 mod text; // text.rt: quoted texts
 mod ends; // ends.rt: blanks, names, and what closes a field

@@ -1,4 +1,6 @@
 // The C interface.
+#![tactic(auto)]
+
 ghost use Rattle.std.specs.Prelude.{◌≡◌, ◌<◌};
 ghost use Rattle.smf.specs.Demand3.{Demand3};
 ghost use Rattle.smf.specs.Listing.{PaddingTold};

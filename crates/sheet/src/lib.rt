@@ -1,4 +1,6 @@
 // Tables that a spreadsheet saved, turned into texts.
+#![tactic(auto)]
+
 mod part; // part.rt: the bytes of a part of a line
 mod cutting; // cutting.rt: where a cell stands
 mod field; // field.rt: a cell as a field

@@ -77,7 +77,7 @@ tracks_read_lem at (t ∷ ts) [] r l p h = absurd p
 tracks_read_lem at (t ∷ ts) (s ∷ ss) r l p h =
     rw (track_split (lay_chunks s.before) (lay_track t s.events) (lay_tracks ts ss) r)
     (and_then_eq _ (track_read_lem at s.before t s.events (lay_tracks ts ss ++ r) p.1 l.0 p.0 h.0)
-    ∙ and_then_eq _ (tracks_read_lem _ ts ss r l.1 p.2 h.1))
+    ∙ and_then_eq _ (tracks_read_lem (at + (length (lay_chunks s.before ++ (lay_track t s.events ++ (lay_tracks ts ss ++ r))) - length (lay_tracks ts ss ++ r))) ts ss r l.1 p.2 h.1))
 
 pub record TracksLaid (n : ℕ) (l : List ℕ) (ts : List (List Event)) (r : List ℕ) : Type 0 where
   pub spelling : List TrackSpelling

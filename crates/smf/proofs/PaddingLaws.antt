@@ -80,7 +80,7 @@ tracks_told at [] ss r l p h = refl
 tracks_told at (t ∷ ts) [] r l p h = absurd p
 tracks_told at (t ∷ ts) (s ∷ ss) r l p h =
     rw (track_split (lay_chunks s.before) (lay_track t s.events) (lay_tracks ts ss) r, chunk_read at s.before (lay_events 0 t s.events) (lay_tracks ts ss ++ r) p.1 h.0)
-    (ap₂ (λ a b. a ∷ b) (all_told t s.events l.0 p.0) (tracks_told _ ts ss r l.1 p.2 h.1))
+    (ap₂ (λ a b. a ∷ b) (all_told t s.events l.0 p.0) (tracks_told (at + (length (lay_chunks s.before ++ (lay_track t s.events ++ (lay_tracks ts ss ++ r))) - length (lay_tracks ts ss ++ r))) ts ss r l.1 p.2 h.1))
 
 -- the third list of a file is what any spelling of it says
 pub paddings_told : (p : Piece) (s : PieceSpelling) → HasLayout p s → paddings (lay_piece p s) ≡ spelled_sums p.tracks s.tracks

@@ -1,4 +1,6 @@
 // Whole files: the header, the tracks, checking, and listing the tracks.
+#![tactic(auto)]
+
 ghost use Rattle.std.specs.Prelude.{◌≡◌};
 ghost use Rattle.smf.specs.Answer.{success, refusal, room_needed};
 

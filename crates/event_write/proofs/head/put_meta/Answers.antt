@@ -1,0 +1,7 @@
+use Rattle.event_write.proofs.WriteLaws.{then}
+use Rattle.event_write.specs.Head.{meta_bytes}
+use Rattle.event_write.proofs.head.put_meta.Goals as goal
+
+pub returns : goal.returns
+unfolding meta_bytes
+returns c = then c.put_byte-p.ensures (then c.put_byte-q.ensures c.put_number.ensures)
