@@ -1,7 +1,6 @@
 -- "A delta may be added to a Time; two Times never."
 use Rattle.std.specs.Prelude.{ℕ, ◌+◌, ◌-◌, leb}
 use Rattle.event.specs.Choice.{pick}
-use Rattle.event.specs.declared.Time.{Time}
 use Rattle.event.specs.declared.Later.{Later}
 use Rattle.event.specs.declared.Later.TheVariants.{At, Over}
 use Rattle.event.specs.declared.Since.{Since}

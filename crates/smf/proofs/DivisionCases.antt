@@ -10,7 +10,7 @@ use Rattle.event.specs.Frame.{frame, after}
 use Rattle.event.specs.Layout.{lay_channel, lay_frame, lay_event}
 use Rattle.event.specs.Outcome.{ok, and_then, check, placed}
 use Rattle.event.specs.Reader.{read_more, read_vlq, read_data, read_number, data_byte, one_data, two_data, one_byte, channel_data, is_channel, length_ok, value_ok, meta_data, read_meta_of, read_meta, read_frame, kind2, meta_of, kind_in, read_event}
-use Rattle.event.specs.Manner.{full, short, status_in, rest_in, spell_event}
+use Rattle.event.specs.Manner.{short, status_in, rest_in, spell_event}
 use Rattle.smf.specs.Manner.{spell_events, spell_tracks, spelling, file_of}
 use Rattle.smf.specs.Layout.{lay_events, lay_chunk, lay_chunks, lay_track, lay_tracks, lay_division, lay_header, lay_piece}
 use Rattle.smf.specs.Division.{frames, rate_ok, in_range, bits, division_of, division_ok}

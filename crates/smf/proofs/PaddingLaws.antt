@@ -10,7 +10,7 @@ use Rattle.event.specs.Choice.{pick}
 use Rattle.event.specs.Event.{Event, is_end}
 use Rattle.event.specs.Frame.{frame, after, no_status}
 use Rattle.event.specs.Spelling.{Spelling}
-use Rattle.event.specs.Outcome.{Outcome, ok, refused, and_then, value_or}
+use Rattle.event.specs.Outcome.{ok, and_then, value_or}
 use Rattle.event.specs.Reader.{read_event}
 use Rattle.event.specs.Padding.{event_padding}
 use Rattle.event.specs.Step.{end_of}

@@ -1,5 +1,5 @@
 use mathlib.Core.List.{[], ◌∷◌, ◌++◌}
-use Prim.Native.Nat.{◌+◌, ◌-◌}
+use Prim.Native.Nat.{◌+◌}
 use native.Mathlib.Numerals.{add-one}
 use lib.ListN.{drop, get_or, drop_of_length-le}
 use lib.Seq.{drop-cons}

@@ -1,4 +1,3 @@
-use Prim.Native.Nat.{◌-◌}
 use Rattle.event.proofs.BytesLaws.{bytes_of}
 use Rattle.smf.proofs.VerdictLaws.{behind_end, behind_few, behind_track, behind_long, behind_pass}
 use native.Mathlib.Omega.{arith}

@@ -9,7 +9,7 @@ returns-then-bits-le-MOST_PULSES c = low_ok _ c.if-bits-le-MOST_PULSES.true
 pub returns-in-226 : goal.returns-in-226
 returns-in-226 c =
     elim c.in-226-1.branch [
-      then-this-lt228 w ↦ high_ok _ c.if-bits-le-MOST_PULSES.false (rate_low _ (omega arith) (omega arith))
+      | then-this-lt228 w ↦ high_ok _ c.if-bits-le-MOST_PULSES.false (rate_low _ (omega arith) (omega arith))
       | else-this-lt228+else-this-lt231+then-this-lt233 w ↦ high_ok _ c.if-bits-le-MOST_PULSES.false (rate_high _ (omega arith) (omega arith))
     ]
 

@@ -1,4 +1,3 @@
-use Prim.Native.Nat.{◌-◌}
 use Rattle.event.proofs.BytesLaws.{bytes_of}
 use Rattle.smf.proofs.ChunkLaws.{chunk_short, chunk_long, chunk_fine, chunk_pass}
 use native.Mathlib.Omega.{arith}

@@ -1,4 +1,4 @@
-use Prim.Native.Nat.{◌+◌, ◌-◌}
+use Prim.Native.Nat.{◌+◌}
 use Rattle.event.proofs.BytesLaws.{bytes_of}
 use Rattle.smf.specs.Reader.{read_all}
 use Rattle.smf.specs.Step.{walk_step}
