@@ -11,20 +11,20 @@ pub mod meta; // meta.rt: system exclusive and meta events
 pub mod read; // read.rt: an event with its delta
 
 // A relative date: the delta in the file.
-#[derive(Drop)]
+#[derive(Clone, Copy)]
 pub struct Delta(pub u32);
 
 // An absolute date: the Time in the text.
-#[derive(Drop)]
+#[derive(Clone, Copy)]
 pub struct Time(pub u32);
 
-#[derive(Drop)]
+#[derive(Clone, Copy)]
 pub enum Later {
     At(Time),
     Over,
 }
 
-#[derive(Drop)]
+#[derive(Clone, Copy)]
 pub enum Since {
     After(Delta),
     Before,
@@ -58,7 +58,7 @@ impl Time {
 
 // The kind of an event and its fields; data bytes as their place in the track's body and their
 // count, a key as its byte.
-#[derive(Drop)]
+#[derive(Clone, Copy)]
 pub enum EventKind {
     NoteOff {
         channel: u8,
@@ -147,7 +147,7 @@ pub enum EventKind {
 }
 
 // Where the data bytes of an event stand in the track's body, and how many they are.
-#[derive(Drop)]
+#[derive(Clone, Copy)]
 pub struct DataPlace {
     pub start: usize,
     pub len: usize,
@@ -155,7 +155,7 @@ pub struct DataPlace {
 
 // What reading a variable-length number answers: its value, the place after it and its padding, which
 // is how many bytes it took above the fewest; or a refusal.
-#[derive(Drop)]
+#[derive(Clone, Copy)]
 pub enum NumberStep {
     Value {
         value: u32,
@@ -168,7 +168,7 @@ pub enum NumberStep {
 }
 
 // What reading a channel data byte answers.
-#[derive(Drop)]
+#[derive(Clone, Copy)]
 pub enum ByteStep {
     Byte { value: u8, next: usize },
     Bad { number: u8 },
@@ -176,7 +176,7 @@ pub enum ByteStep {
 
 // What reading an event after its delta answers: the event, the place after it, the status then in
 // force (0: none) and the padding of its length (0 where it has none); or a refusal.
-#[derive(Drop)]
+#[derive(Clone, Copy)]
 pub enum FrameStep {
     Found {
         kind: EventKind,
@@ -190,7 +190,7 @@ pub enum FrameStep {
 }
 
 // What reading an event with its delta answers: its Time besides, and the padding of delta and length.
-#[derive(Drop)]
+#[derive(Clone, Copy)]
 pub enum EventStep {
     Read {
         time: Time,

@@ -23,7 +23,7 @@ const ENDED: u8 = 1;
 
 // The row of a track: where its next event stands, that event's Time, and the status in force before it; 1, which is no
 // status byte, says that it is End_track.
-#[derive(Drop)]
+#[derive(Clone, Copy)]
 struct Row {
     place: usize,
     time: u32,

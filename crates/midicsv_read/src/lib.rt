@@ -6,7 +6,7 @@ mod order; // order.rt: records in their order
 pub mod to_file; // to_file.rt: text to file
 
 // The byte of a field of Data, and the place of the field after it.
-#[derive(Drop)]
+#[derive(Clone, Copy)]
 struct DataStep {
     byte: u8,
     next: usize,
@@ -16,7 +16,7 @@ struct DataStep {
 // track, 3 after End_of_file; count is the Header's, tracks are those ended; time and force are the
 // Time and the status after the last event; size is the place of the present track's length, and at
 // that of the next byte.
-#[derive(Drop)]
+#[derive(Clone, Copy)]
 pub struct Progress {
     pub phase: u8,
     pub count: u32,
@@ -28,14 +28,14 @@ pub struct Progress {
 }
 
 // One record further, or refused.
-#[derive(Drop)]
+#[derive(Clone, Copy)]
 pub enum Step {
     Moved(Progress),
     Bad { number: u8 },
 }
 
 // What a pass over all lines answers: the length of the file, or the first refusal with its line.
-#[derive(Drop)]
+#[derive(Clone, Copy)]
 pub enum Passed {
     Whole(usize),
     Stopped { number: u8, line: usize },

@@ -14,7 +14,7 @@ pub mod line; // line.rt: the record of a line, or its refusal
 // A record: its name by its number in the list of names, Track, Time, up to five numbers (0 past
 // those that the name has), and where in the line its Text begins, after the quote, or its Data;
 // len is the number of the Data.
-#[derive(Drop)]
+#[derive(Clone, Copy)]
 pub struct Row {
     pub name: u8,
     pub track: u32,
@@ -28,14 +28,14 @@ pub struct Row {
     pub len: usize,
 }
 
-#[derive(Drop)]
+#[derive(Clone, Copy)]
 pub enum LineStep {
     Wrong { number: u8 },
     Parsed(Row),
 }
 
 // A column of the table; NoColumn past the last of a name.
-#[derive(Drop)]
+#[derive(Clone, Copy)]
 pub enum ColumnKind {
     Range { lo: u32, hi: u32 },
     Key,
@@ -46,7 +46,7 @@ pub enum ColumnKind {
 }
 
 // What follows the columns: nothing, a Text, or Length and Data.
-#[derive(Drop)]
+#[derive(Clone, Copy)]
 pub enum TailKind {
     NoTail,
     OneText,
@@ -55,7 +55,7 @@ pub enum TailKind {
 
 // What has just been passed in a quoted text: nothing special, a quote, a backslash, or one or two
 // octal digits.
-#[derive(Drop)]
+#[derive(Clone, Copy)]
 pub enum TextState {
     Plain,
     Quote,
@@ -65,7 +65,7 @@ pub enum TextState {
 }
 
 // What a character of a quoted text gives.
-#[derive(Drop)]
+#[derive(Clone, Copy)]
 pub enum TextStep {
     Nothing(TextState),
     Byte(u8, TextState),
@@ -73,21 +73,21 @@ pub enum TextStep {
 }
 
 // The number of a field, or 25.
-#[derive(Drop)]
+#[derive(Clone, Copy)]
 pub enum ColumnStep {
     Value(u32),
     OutOfRange,
 }
 
 // The number of a column and the place after its field; or a fault.
-#[derive(Drop)]
+#[derive(Clone, Copy)]
 enum CellStep {
     Cell(u32, usize),
     NoCell,
 }
 
 // The numbers of a record's columns, 0 past the last, and the place after their fields; or a fault.
-#[derive(Drop)]
+#[derive(Clone, Copy)]
 pub enum ColumnsStep {
     Five {
         a: u32,
@@ -101,21 +101,21 @@ pub enum ColumnsStep {
 }
 
 // That a line has as many fields as its name and its Length want; or 24 or 25.
-#[derive(Drop)]
+#[derive(Clone, Copy)]
 enum SizeStep {
     Fits,
     Off(u8),
 }
 
 // Where the Text or the Data begin, and how many Data there are; or a fault.
-#[derive(Drop)]
+#[derive(Clone, Copy)]
 pub enum TailStep {
     Start { start: usize, len: usize },
     Unfit,
 }
 
 // The record of a line, or that the line has a fault.
-#[derive(Drop)]
+#[derive(Clone, Copy)]
 enum RowStep {
     Taken(Row),
     Faulty,

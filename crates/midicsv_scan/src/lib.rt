@@ -10,7 +10,7 @@ pub mod frame; // frame.rt: the lines of a text
 
 // A field: its value, or where it stands (a text from after its opening quote on); next is the
 // place of the comma after it, or the line's end.
-#[derive(Drop)]
+#[derive(Clone, Copy)]
 pub enum FieldStep {
     Number {
         value: u32,
@@ -33,28 +33,28 @@ pub enum FieldStep {
 }
 
 // The number of the fields of a line.
-#[derive(Drop)]
+#[derive(Clone, Copy)]
 pub enum FieldCount {
     Count(usize),
     NoCount,
 }
 
 // The place where a part of a line ends, where the part is good.
-#[derive(Drop)]
+#[derive(Clone, Copy)]
 enum PartEnd {
     At(usize),
     Nowhere,
 }
 
 // A run of digits and the place after it; too many where an 11th follows.
-#[derive(Drop)]
+#[derive(Clone, Copy)]
 enum DigitRun {
     Digits { value: u64, next: usize },
     TooMany,
 }
 
 // A number and the place after it.
-#[derive(Drop)]
+#[derive(Clone, Copy)]
 enum NumberEnd {
     Value { value: u32, next: usize },
     NoNumber,
@@ -62,7 +62,7 @@ enum NumberEnd {
 
 // What has just been passed in a quoted text: nothing special, a quote, a backslash, or one or two
 // octal digits.
-#[derive(Drop)]
+#[derive(Clone, Copy)]
 enum Look {
     Plain,
     Quote,
@@ -72,7 +72,7 @@ enum Look {
 }
 
 // What a byte of a quoted text does: go on, end the text before it, or break it.
-#[derive(Drop)]
+#[derive(Clone, Copy)]
 enum Turn {
     On(Look),
     Ended,
@@ -80,7 +80,7 @@ enum Turn {
 }
 
 // Where a line ends, and where the next begins.
-#[derive(Drop)]
+#[derive(Clone, Copy)]
 pub struct Cut {
     pub end: usize,
     pub next: usize,

@@ -11,7 +11,7 @@ pub mod table; // table.rt: the whole table
 
 // A cell of a part of a line: its bytes (between the quotes, where it is quoted), and the place of the
 // separator after it or the part's end.
-#[derive(Drop)]
+#[derive(Clone, Copy)]
 pub struct Cell {
     pub from: usize,
     pub to: usize,
@@ -20,7 +20,7 @@ pub struct Cell {
 }
 
 // The cell found, or that the line cannot be cut: a quote is not closed, or bytes follow it.
-#[derive(Drop)]
+#[derive(Clone, Copy)]
 pub enum CellStep {
     Found(Cell),
     Open,
@@ -28,21 +28,21 @@ pub enum CellStep {
 
 // The cells of a row: how many, how many up to the last that is not empty, and how many stand before the
 // text (0 where the row has none).
-#[derive(Drop)]
+#[derive(Clone, Copy)]
 pub struct Row {
     pub cells: usize,
     pub kept: usize,
     pub place: usize,
 }
 
-#[derive(Drop)]
+#[derive(Clone, Copy)]
 pub enum RowStep {
     Cells(Row),
     Uncut,
 }
 
 // The one cell of a line whose other cells are empty.
-#[derive(Drop)]
+#[derive(Clone, Copy)]
 pub enum LoneStep {
     Lone(Cell),
     Several,

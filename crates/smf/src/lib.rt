@@ -15,7 +15,7 @@ pub const HEADER_TAG: u32 = 0x4D546864;
 pub const TRACK_TAG: u32 = 0x4D54726B;
 
 // What every operation answers: a refusal's number and place, or 0, 0 and the length written.
-#[derive(Drop)]
+#[derive(Clone, Copy)]
 pub struct Answer {
     pub number: u8,
     pub place: usize,
@@ -55,14 +55,14 @@ impl Answer {
 }
 
 // Pulses per quarter note, or frames a second and ticks a frame.
-#[derive(Drop)]
+#[derive(Clone, Copy)]
 pub enum Division {
     Pulses(u32),
     Frames { rate: u32, ticks: u32 },
 }
 
 // What reading the header answers: its fields and the place after it, or a refusal.
-#[derive(Drop)]
+#[derive(Clone, Copy)]
 pub enum HeaderStep {
     Fields {
         format: u32,
@@ -77,7 +77,7 @@ pub enum HeaderStep {
 }
 
 // What reading a track's chunk answers: where its events begin and where the chunk ends.
-#[derive(Drop)]
+#[derive(Clone, Copy)]
 pub enum ChunkStep {
     Body { start: usize, end: usize },
     BadChunk { number: u8, place: usize },
@@ -85,7 +85,7 @@ pub enum ChunkStep {
 
 // What walking a track's events answers: the Time of its End_track, the number of its events,
 // End_track included, and the sum of their padding.
-#[derive(Drop)]
+#[derive(Clone, Copy)]
 pub enum WalkStep {
     Whole {
         time: event::Time,
@@ -99,7 +99,7 @@ pub enum WalkStep {
 }
 
 // What reading a track answers: the same, and the place after its chunk.
-#[derive(Drop)]
+#[derive(Clone, Copy)]
 pub enum TrackStep {
     Track {
         time: event::Time,
@@ -114,7 +114,7 @@ pub enum TrackStep {
 }
 
 // What reading all the tracks answers: the place after the last.
-#[derive(Drop)]
+#[derive(Clone, Copy)]
 pub enum TracksStep {
     Next(usize),
     BadTracks { number: u8, place: usize },
