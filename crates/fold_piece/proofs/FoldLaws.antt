@@ -6,7 +6,7 @@ use native.Mathlib.Omega.{arith}
 use lib.ListN.{length, length-append}
 use Rattle.event.specs.Event.{Event}
 use Rattle.event.specs.Frame.{frame, no_status}
-use Rattle.event.specs.Manner.{Manner, short}
+use Rattle.event.specs.Manner.{Manner}
 use Rattle.event.specs.Number.{vlq}
 use Rattle.event.specs.Layout.{lay_frame}
 use Rattle.event.specs.Outcome.{ok}
