@@ -2,14 +2,12 @@
 use mathlib.Core.Path.{◌≡◌, ap, ◌∙◌}
 use Prim.Native.Nat.{◌≤◌}
 use mathlib.Core.Bool.{true}
-use mathlib.Core.List.{List, ◌∷◌}
 use native.Mathlib.Omega.{arith}
 use lib.ListN.{length}
 use Rattle.event.specs.Outcome.{ok}
-use Rattle.midicsv.specs.Field.{Field, num, name}
 use Rattle.midicsv.specs.Show.{Form, line_of}
-use Rattle.midicsv.specs.Table.{spelled, shape}
-use Rattle.midicsv.specs.Record.{Record, fields_of, record_fields, record_line}
+use Rattle.midicsv.specs.Table.{shape}
+use Rattle.midicsv.specs.Record.{Record, record_fields, record_line}
 use Rattle.midicsv.specs.Result.{good}
 use Rattle.midicsv.specs.ReadField.{all_fields}
 use Rattle.midicsv.specs.ReadRecord.{together, with_values, record_of, of_fields, read_line}

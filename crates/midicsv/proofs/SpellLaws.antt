@@ -1,16 +1,16 @@
 -- A text spelled for a cell is read back; it has no control byte, and at most four bytes for each of its own.
-use mathlib.Core.Path.{◌≡◌, refl, sym, ap, ◌∙◌}
-use Prim.Native.Nat.{ℕ, ◌+◌, ◌*◌, ◌/◌, ◌%◌, ◌<◌, ◌≤◌}
-use mathlib.Core.Bool.{Bool, true, false, false≢true, ◌&&◌, ◌||◌, not}
+use mathlib.Core.Path.{◌≡◌, refl, ◌∙◌}
+use Prim.Native.Nat.{ℕ, ◌*◌, ◌<◌, ◌≤◌}
+use mathlib.Core.Bool.{Bool, true, false, ◌&&◌, ◌||◌, not}
 use mathlib.Core.List.{List, [], ◌∷◌, ◌++◌, append_assoc}
 use native.Mathlib.Omega.{arith}
 use lib.ListN.{length, length-append}
 use lib.Dec.{leb, eqb}
-use borrow.Author.Tests.{le-leb, eqb-true, ne_eqb, leb-true}
+use borrow.Author.Tests.{eqb-true, ne_eqb, leb-true}
 use Rattle.event.specs.Choice.{pick}
-use Rattle.event.specs.Outcome.{Outcome, ok}
+use Rattle.event.specs.Outcome.{ok}
 use Rattle.event.specs.Bytes.{Bytes}
-use Rattle.event.proofs.ChoiceLaws.{by_test, pick_true, pick_false, or_cases, and_both}
+use Rattle.event.proofs.ChoiceLaws.{by_test, pick_false, or_cases, and_both}
 use Rattle.midicsv.specs.ReadField.{is_letter, push, plain, read_quoted}
 use Rattle.midicsv.proofs.AllLaws.{All, all_append, Printable}
 use Rattle.midicsv.proofs.QuotedReadLaws.{push_eq, octal_read, NoQuote, closing}

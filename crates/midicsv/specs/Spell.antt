@@ -1,5 +1,5 @@
 -- How a text is spelled in a cell of the sheet form (docs/SPREADSHEET.md, "The sheet: what is written", rules 2 to 4), so that no spreadsheet changes it.
-use Rattle.std.specs.Prelude.{ℕ, ◌+◌, ◌/◌, ◌%◌, Bool, true, false, ◌&&◌, ◌||◌, not, List, [], ◌∷◌, ◌++◌, length, leb, eqb}
+use Rattle.std.specs.Prelude.{ℕ, ◌+◌, ◌/◌, ◌%◌, Bool, false, ◌&&◌, ◌||◌, not, List, [], ◌∷◌, ◌++◌, length, leb, eqb}
 use Rattle.event.specs.Choice.{pick}
 use Rattle.midicsv.specs.ReadField.{is_letter}
 use Rattle.midicsv.specs.Names.{same_name}

@@ -1,5 +1,5 @@
 -- Words that stand in a row, all of one length.
-use Rattle.std.specs.Prelude.{ℕ, zero, suc, List, [], ◌∷◌, ◌++◌, length, take, drop, leb}
+use Rattle.std.specs.Prelude.{ℕ, zero, suc, List, [], ◌∷◌, length, take, drop, leb}
 use Rattle.event.specs.Choice.{pick}
 
 -- at most k words of n bytes

@@ -1,4 +1,3 @@
-use Prim.Native.Nat.{◌-◌}
 use Rattle.event_write.proofs.WriteLaws.{all_remains, less_remains, none_remains}
 use Rattle.midicsv.specs.Code.Form.{form_of}
 use Rattle.midicsv.proofs.FieldLaws.{data_more, data_end, data_length}

@@ -1,4 +1,3 @@
-use Prim.Native.Nat.{◌-◌}
 use mathlib.Core.List.{[], ◌∷◌}
 use Rattle.event_write.proofs.WriteLaws.{then, all_remains, less_remains, none_remains}
 use Rattle.midicsv.specs.Show.{spell_in, quote}

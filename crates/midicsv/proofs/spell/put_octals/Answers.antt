@@ -1,4 +1,3 @@
-use Prim.Native.Nat.{◌-◌}
 use Rattle.event_write.proofs.WriteLaws.{all_remains, go_on_lem, done}
 use Rattle.midicsv.proofs.SpellLaws.{octals_size}
 use Rattle.midicsv.proofs.SpellWriteLaws.{octals_more, octals_end}

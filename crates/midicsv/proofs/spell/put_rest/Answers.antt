@@ -1,4 +1,3 @@
-use Prim.Native.Nat.{◌-◌}
 use lib.ListN.{drop, get_or, length-drop}
 use Rattle.event_write.proofs.WriteLaws.{all_remains, go_on_lem, finish, done}
 use Rattle.midicsv.proofs.SpellLaws.{rest_size}
@@ -13,7 +12,7 @@ loop-i-init c = (refl, all_remains _ _ _)
 pub put_or_octal-next-requires : goal.put_or_octal-next-requires
 put_or_octal-next-requires c =
     let a = c.args in
-    omega (arith, c.loop-i.invariant.1.place, rest_size a.free (get_or a.text.now 0 0) (drop 1 a.text.now), length-drop 1 a.text.now, c.requires.fact_1, (c.requires.fact_2, c.requires.fact_3))
+    omega (arith, c.loop-i.invariant.1.place, rest_size a.free (get_or a.text.now 0 0) (drop 1 a.text.now), length-drop 1 a.text.now, c.requires.fact_1, c.requires.fact_2, c.requires.fact_3)
 
 pub loop-i-preserved : goal.loop-i-preserved
 loop-i-preserved c =
@@ -30,7 +29,7 @@ returns-then-last-i c =
 pub put_last-requires : goal.put_last-requires
 put_last-requires c =
     let a = c.args in
-    omega (arith, c.loop-i.invariant.1.place, rest_size a.free (get_or a.text.now 0 0) (drop 1 a.text.now), length-drop 1 a.text.now, c.requires.fact_1, (c.requires.fact_2, c.requires.fact_3))
+    omega (arith, c.loop-i.invariant.1.place, rest_size a.free (get_or a.text.now 0 0) (drop 1 a.text.now), length-drop 1 a.text.now, c.requires.fact_1, c.requires.fact_2, c.requires.fact_3)
 
 pub returns : goal.returns
 returns c =
