@@ -23,7 +23,7 @@ use Rattle.midicsv.proofs.ResultLaws.{not_good, next_good}
 use Rattle.sheet_table.specs.Cut.{has, begins, bare, lead, opening, cut_from, cut, is_none}
 use Rattle.sheet_table.specs.Table.{is_empty, all_empty, keep_before, drop_empty, plain_cells, text_at, row_fields, joined, row_line, of_cut, is_remark, line_by, cells_line, table_line, sep_in, sep_of, unmarked, table_text}
 use Rattle.sheet_table.specs.Code.Cells.{cells_after, cons_cell}
-use Rattle.sheet_table.proofs.CutLaws.{parts_comma, Follows, bare_cut}
+use Rattle.sheet_table.proofs.CutLaws.{Follows, bare_cut}
 use Rattle.sheet_table.proofs.TableLinesLaws.{line_all, each_row, table_lines_lem}
 use Rattle.sheet_table.proofs.BareFieldLaws.{inside_has, and_true, NoReturn, skip_same, blanks_inside, skipped}
 use Rattle.sheet_table.proofs.RecordKeptLaws.{line_kept}

@@ -1,5 +1,4 @@
 -- The answers of saved table to text fit the exported number.
-use mathlib.Core.Path.{◌≡◌}
 use Prim.Native.Nat.{ℕ}
 use mathlib.Core.List.{List}
 use native.Mathlib.Omega.{arith}

@@ -1,5 +1,5 @@
 -- The examples of saved tables, computed from the definitions.
-use mathlib.Core.Path.{◌≡◌, refl}
+use mathlib.Core.Path.{refl}
 use Rattle.event.specs.Choice.{pick}
 use Rattle.event.specs.Outcome.{and_then, check}
 use Rattle.midicsv.specs.Table.{spelled, event_spelled, shape, event_shape}

@@ -1,6 +1,6 @@
 -- The text of a saved table, line for line (docs/SPREADSHEET.md, "The saved table: what is read", rules 1 to 6): table_text. It is total; a row that is no record becomes a
 -- line that is refused there.
-use Rattle.std.specs.Prelude.{ℕ, zero, suc, Bool, true, false, ◌&&◌, ◌||◌, not, List, [], ◌∷◌, ◌++◌, length, eqb}
+use Rattle.std.specs.Prelude.{ℕ, zero, suc, Bool, true, ◌&&◌, ◌||◌, not, List, [], ◌∷◌, ◌++◌, eqb}
 use Rattle.event.specs.Choice.{pick}
 use Rattle.event.specs.Outcome.{Outcome, ok, refused}
 use Rattle.midicsv.specs.Field.{Field}

@@ -1,5 +1,5 @@
 -- Saved table to text: 38, 21, 14 (docs/SPREADSHEET.md, "The library").
-use Rattle.std.specs.Prelude.{ℕ, Bool, ◌&&◌, List, ◌++◌, length, drop, leb}
+use Rattle.std.specs.Prelude.{ℕ, ◌&&◌, List, ◌++◌, length, drop, leb}
 use Rattle.event.specs.Choice.{pick}
 use Rattle.smf.specs.Answer.{success, refusal, room_needed}
 use Rattle.smf.specs.declared.Answer.{Answer}

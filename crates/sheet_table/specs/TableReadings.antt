@@ -1,5 +1,5 @@
 -- Saved tables and the texts that they are, by the rules of docs/SPREADSHEET.md.
-use Rattle.std.specs.Prelude.{◌≡◌, ℕ, List, [], ◌∷◌, ◌++◌}
+use Rattle.std.specs.Prelude.{◌≡◌, ℕ, List, [], ◌∷◌}
 use Rattle.midicsv.specs.Field.{bytes}
 use Rattle.sheet_table.specs.Table.{table_text}
 

@@ -1,0 +1,31 @@
+use Rattle.midicsv_scan.proofs.NumberLaws.{digit_range, going_first, going_small, going_on, going_stop, going_over, going_end}
+use native.Mathlib.Omega.{arith}
+use mathlib.Core.Path.{sym, ◌∙◌}
+use Rattle.midicsv_scan.proofs.number.digits.Goals as goal
+
+pub loop-p-init : goal.loop-p-init
+loop-p-init c = going_first _ _ c.requires
+
+pub returns-then-not-is_digit : goal.returns-then-not-is_digit
+returns-then-not-is_digit c = let h = going_stop c.loop-p.invariant c.loop-p-test.true (sym c.is_digit.ensures ∙ c.if-not-is_digit.true) in record { fact_1 = h.0; fact_2 = h.1 }
+
+pub returns-then-p-at-ge10 : goal.returns-then-p-at-ge10
+returns-then-p-at-ge10 c = let h = going_over c.loop-p.invariant c.loop-p-test.true (sym c.is_digit.ensures ∙ c.if-not-is_digit.false) c.if-p-at-ge10.true in record { fact_1 = h.0; fact_2 = h.1 }
+
+pub overflow_mul-value : goal.overflow_mul-value
+overflow_mul-value c = omega (arith, going_small c.loop-p.invariant)
+
+pub overflow_sub-value : goal.overflow_sub-value
+overflow_sub-value c = omega (arith, digit_range _ (sym c.is_digit.ensures ∙ c.if-not-is_digit.false))
+
+pub overflow_cast-value : goal.overflow_cast-value
+overflow_cast-value c = omega (arith, digit_range _ (sym c.is_digit.ensures ∙ c.if-not-is_digit.false))
+
+pub overflow_add-value : goal.overflow_add-value
+overflow_add-value c = omega (arith, going_small c.loop-p.invariant, digit_range _ (sym c.is_digit.ensures ∙ c.if-not-is_digit.false))
+
+pub loop-p-preserved : goal.loop-p-preserved
+loop-p-preserved c = going_on c.loop-p.invariant c.loop-p-test.true (sym c.is_digit.ensures ∙ c.if-not-is_digit.false) c.if-p-at-ge10.false
+
+pub returns : goal.returns
+returns c = let h = going_end c.loop-p.invariant c.loop-p-test.false in record { fact_1 = h.0; fact_2 = h.1 }

@@ -1,0 +1,15 @@
+use Rattle.midicsv.specs.Code.Form.{form_of}
+use Prim.Native.Nat.{◌-◌, ◌≤◌}
+use lib.ListN.{length}
+use Rattle.event.specs.Outcome.{Readable}
+use Rattle.event_write.proofs.WriteLaws.{Remains}
+use Rattle.smf.proofs.TurnLaws.{A}
+use Rattle.midicsv_write.proofs.TextLaws.{EventsLeft}
+use mathlib.Core.Path.{◌≡◌}
+use Rattle.midicsv_write.proofs.to_text.put_events.Given as goal
+
+abbrev pub invariant-loop-number : goal.invariant-loop-number
+invariant-loop-number l = (l.at ≤ length l.body) × (length l.out ≡ length l.initial.out) × Readable (A l.body l.at l.time.0 l.status) × Remains l.initial.out l.from (EventsLeft (form_of l.sheet) l.track l.body 0 0 0) l.out l.next (EventsLeft (form_of l.sheet) l.track l.body l.at l.time.0 l.status)
+
+abbrev pub decreases-loop-number : goal.decreases-loop-number
+decreases-loop-number l = length l.body - l.at
