@@ -1,0 +1,20 @@
+use Rattle.midicsv_record.specs.Line.{size_as}
+use Rattle.midicsv_record.proofs.LineLaws.{size_wrong, name_wrong}
+use Rattle.midicsv_record.proofs.RefusalLaws.{only_range}
+use mathlib.Core.Path.{sym, ◌∙◌, ap}
+use Rattle.midicsv_record.proofs.refusal.named_refusal.Goals as goal
+
+pub returns-then-name-gt28 : goal.returns-then-name-gt28
+returns-then-name-gt28 c = name_wrong c.args.line.now c.args.name c.if-name-gt28.true
+
+pub returns-in-Fits : goal.returns-in-Fits
+unfolding size_as
+returns-in-Fits c =
+    let a = c.args in
+    only_range a.line.now a.name _ c.if-name-gt28.false (ap size_as (sym c.in-Fits.is) ∙ c.size_of.ensures) c.requires.fact_2
+
+pub returns-in-Off : goal.returns-in-Off
+unfolding size_as
+returns-in-Off c =
+    let a = c.args in
+    size_wrong a.line.now a.name _ c.if-name-gt28.false (ap size_as (sym c.in-Off.is) ∙ c.size_of.ensures)
