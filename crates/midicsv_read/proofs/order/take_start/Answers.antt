@@ -1,0 +1,26 @@
+use mathlib.Core.List.{[]}
+use Rattle.event.proofs.BytesLaws.{length_big_endian}
+use Rattle.smf.specs.Chunk.{track_tag}
+use Rattle.midicsv_read.proofs.TakeLaws.{start_phase, start_full, start_unmarked, start_moved}
+use native.Mathlib.Omega.{arith}
+use mathlib.Core.Path.{sym, ◌∙◌}
+use Rattle.midicsv_read.proofs.order.take_start.Goals as goal
+
+pub returns-then-st-ne1 : goal.returns-then-st-ne1
+returns-then-st-ne1 c = let a = c.args in record { fact_1 = λ m. start_phase m a.st _ a.row [] c.if-st-ne1.true; fact_2 = tt }
+
+pub returns-then-st : goal.returns-then-st
+returns-then-st c = let a = c.args in record { fact_1 = λ m. start_full m a.st _ a.row [] c.if-st.true; fact_2 = tt }
+
+pub returns-then-not-is_marked : goal.returns-then-not-is_marked
+returns-then-not-is_marked c = let a = c.args in
+    record { fact_1 = λ m. start_unmarked m a.st _ a.row [] c.if-st.false (sym c.is_marked.ensures ∙ c.if-not-is_marked.true); fact_2 = tt }
+
+pub put_four-at-requires : goal.put_four-at-requires
+put_four-at-requires c = omega (arith, c.put_four-size.ensures.place, length_big_endian 4 track_tag, c.requires.at)
+
+pub returns : goal.returns
+returns c = let a = c.args in
+    let x = c.put_four-size.ensures in
+    let y = c.put_four-at.ensures in
+    record { fact_1 = λ m. start_moved m a.st _ a.row _ _ _ _ c.if-st-ne1.false c.if-st.false (sym c.is_marked.ensures ∙ c.if-not-is_marked.false) x y; fact_2 = omega (arith, c.put_four-size.ensures.place, c.put_four-at.ensures.place, length_big_endian 4 track_tag, length_big_endian 4 0) }
