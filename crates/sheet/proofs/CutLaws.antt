@@ -1,15 +1,14 @@
 -- The first cell of a row, by the bytes in front: bare, in quotes, after the closing quote.
 use mathlib.Core.Path.{◌≡◌, refl, sym, ap, ◌∙◌}
 use Prim.Native.Nat.{ℕ}
-use mathlib.Core.Bool.{Bool, true, false, false≢true, ◌||◌}
+use mathlib.Core.Bool.{true, false, false≢true}
 use mathlib.Core.List.{List, [], ◌∷◌, ◌++◌}
 use lib.Dec.{eqb}
 use borrow.Author.Tests.{eqb-true, eq-eqb}
 use Rattle.event.specs.Choice.{pick}
 use Rattle.event.proofs.ChoiceLaws.{by_test, pick_true, pick_false}
-use Rattle.midicsv.specs.Lines.{onto}
-use Rattle.midicsv.specs.Result.{Result, good, bad}
-use Rattle.sheet_table.specs.Cut.{has, blank_beside, skip_beside, begins, bare, lead, quotes, closed, opening, on_cell, new_cell, cut_from, cut}
+use Rattle.midicsv.specs.Result.{Result, bad}
+use Rattle.sheet_table.specs.Cut.{has, blank_beside, skip_beside, begins, bare, lead, quotes, closed, opening, on_cell, cut_from, cut}
 use Rattle.sheet_table.specs.Table.{doubled}
 use Rattle.sheet_table.proofs.CutLaws.{new_cons, on_cons, Follows, or_left, or_right}
 use Rattle.sheet.specs.Code.Seen.{singled}

@@ -10,7 +10,7 @@ use borrow.Author.Tests.{eq-eqb, ne_eqb, lt-ltb, le-ltb, ltb-true, ltb-false}
 use Rattle.event.specs.Choice.{pick}
 use Rattle.event.proofs.ChoiceLaws.{pick_true, pick_false, by_test}
 use Rattle.midicsv.specs.ReadField.{read_field}
-use Rattle.sheet_table.specs.Table.{is_empty, keep_before, drop_empty, plain_cell, plain_cells, fields_to, after, name_in, text_of_name, text_at, row_fields}
+use Rattle.sheet_table.specs.Table.{is_empty, keep_before, drop_empty, plain_cell, plain_cells, fields_to, name_in, text_of_name, text_at, row_fields}
 use Rattle.sheet.specs.Code.Row.{place_as, field_at, fields_in, field_count, Looked}
 use Rattle.sheet.specs.Code.Walk.{Grown}
 use Rattle.sheet.specs.declared.Row.{Row}

@@ -1,7 +1,7 @@
 -- A cell of a line as it is found, and what it is in the line.
 use Rattle.std.specs.Prelude.{◌≡◌, ℕ, ◌<◌, ◌≤◌, Bool, true, false, ◌&&◌, not, List, [], ◌∷◌, length, get_or, drop, eqb}
 use Rattle.event.specs.Choice.{pick}
-use Rattle.midicsv.specs.Result.{Result, good, bad}
+use Rattle.midicsv.specs.Result.{bad}
 use Rattle.sheet_table.specs.Cut.{has, blank_beside, skip_beside, begins, quotes, closed, cut_from, cut}
 use Rattle.sheet_table.specs.Code.Cells.{cons_cell, cells_after}
 use Rattle.sheet_table.specs.Table.{doubled}

@@ -1,7 +1,7 @@
 -- The fields of a row one by one, and what looking through a row finds.
 use Rattle.std.specs.Prelude.{◌≡◌, ℕ, zero, suc, max, Bool, ◌&&◌, not, List, [], ◌∷◌, length, eqb, ltb}
 use Rattle.event.specs.Choice.{pick}
-use Rattle.midicsv.specs.Result.{Result, good, bad}
+use Rattle.midicsv.specs.Result.{good, bad}
 use Rattle.sheet_table.specs.Cut.{cut}
 use Rattle.sheet_table.specs.Table.{drop_empty, requote, plain_cell, TextPlace, nowhere, after, text_at, line_by, row_line, table_line}
 use Rattle.sheet.specs.Code.Seen.{seen, slice}

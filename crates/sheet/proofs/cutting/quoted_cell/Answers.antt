@@ -1,0 +1,15 @@
+use native.Mathlib.Omega.{arith}
+use Rattle.sheet.proofs.CellLaws.{quoted_unclosed, quoted_end_found, quoted_sep_found, quoted_other}
+use Rattle.sheet.proofs.cutting.quoted_cell.Goals as goal
+
+pub returns-then-part-to : goal.returns-then-part-to
+returns-then-part-to c = quoted_unclosed _ _ _ _ _ c.quote_end-to.ensures (omega (arith, c.if-part-to.true))
+
+pub returns-then-part-next : goal.returns-then-part-next
+returns-then-part-next c = quoted_end_found _ _ _ _ _ _ _ c.quote_end-to.ensures (omega (arith, c.if-part-to.false)) c.after_byte.ensures c.closed_end-next.ensures c.if-part-next.true
+
+pub returns-then-part-next-2 : goal.returns-then-part-next-2
+returns-then-part-next-2 c = quoted_other _ _ _ _ _ _ _ c.quote_end-to.ensures (omega (arith, c.if-part-to.false)) c.after_byte.ensures c.closed_end-next.ensures c.if-part-next.false c.if-part-next-2.true
+
+pub returns : goal.returns
+returns c = quoted_sep_found _ _ _ _ _ _ _ c.quote_end-to.ensures (omega (arith, c.if-part-to.false)) c.after_byte.ensures c.closed_end-next.ensures c.if-part-next-2.false
