@@ -1,4 +1,4 @@
-// The C interface.
+// The C interface, as a library: noferkash_c exports each of these functions to C under its name.
 #![tactic(auto)]
 
 ghost use Rattle.std.specs.Prelude.{◌≡◌, ◌<◌};
@@ -18,37 +18,32 @@ fn pack(a: smf::Answer) -> u64
     number * 72057594037927936 + place * 268435456 + length
 }
 
-#[unsafe(no_mangle)]
-pub extern "C" fn noferkash_check(file: &[u8]) -> u64
+pub fn noferkash_check(file: &[u8]) -> u64
     ensures fact_1 { CheckCall file.now result }
     ensures fact_2 { Demand3 file.now (number_of result) }
 {
     pack(smf::check::check(file))
 }
 
-#[unsafe(no_mangle)]
-pub extern "C" fn noferkash_file_to_text(file: &[u8], out: &mut [u8]) -> u64
+pub fn noferkash_file_to_text(file: &[u8], out: &mut [u8]) -> u64
     ensures { TextCall file.now out.old result out.new }
 {
     pack(midicsv_write::to_text::file_to_text(file, out))
 }
 
-#[unsafe(no_mangle)]
-pub extern "C" fn noferkash_text_to_file(text: &[u8], manner: u32, out: &mut [u8]) -> u64
+pub fn noferkash_text_to_file(text: &[u8], manner: u32, out: &mut [u8]) -> u64
     ensures { FileCall text.now manner out.old result out.new }
 {
     pack(midicsv_read::to_file::text_to_file(text, manner, out))
 }
 
-#[unsafe(no_mangle)]
-pub extern "C" fn noferkash_tidy(file: &[u8], out: &mut [u8]) -> u64
+pub fn noferkash_tidy(file: &[u8], out: &mut [u8]) -> u64
     ensures { TidyCall file.now out.old result out.new }
 {
     pack(smf_write::tidy::tidy(file, out))
 }
 
-#[unsafe(no_mangle)]
-pub extern "C" fn noferkash_list_tracks(
+pub fn noferkash_list_tracks(
     file: &[u8],
     ends: &mut [u32],
     counts: &mut [u32],
@@ -60,8 +55,7 @@ pub extern "C" fn noferkash_list_tracks(
     pack(smf::list::list_tracks(file, ends, counts, padding))
 }
 
-#[unsafe(no_mangle)]
-pub extern "C" fn noferkash_fold(file: &[u8], out: &mut [u8]) -> u64
+pub fn noferkash_fold(file: &[u8], out: &mut [u8]) -> u64
     ensures { FoldCall file.now out.old result out.new }
 {
     let mut places = [0usize; 64];
@@ -70,15 +64,13 @@ pub extern "C" fn noferkash_fold(file: &[u8], out: &mut [u8]) -> u64
     pack(fold::fold(file, out, &mut places, &mut times, &mut statuses))
 }
 
-#[unsafe(no_mangle)]
-pub extern "C" fn noferkash_file_to_sheet(file: &[u8], out: &mut [u8]) -> u64
+pub fn noferkash_file_to_sheet(file: &[u8], out: &mut [u8]) -> u64
     ensures { SheetCall file.now out.old result out.new }
 {
     pack(midicsv_write::to_text::file_to_sheet(file, out))
 }
 
-#[unsafe(no_mangle)]
-pub extern "C" fn noferkash_sheet_to_text(saved: &[u8], out: &mut [u8]) -> u64
+pub fn noferkash_sheet_to_text(saved: &[u8], out: &mut [u8]) -> u64
     ensures { TableCall saved.now out.old result out.new }
 {
     pack(sheet::table::sheet_to_text(saved, out))
