@@ -16,6 +16,7 @@ const FILE_ROOM: usize = 16385;
 const TEXT_ROOM: usize = 65536;
 
 // File to text, in a program that takes no more than 16,384 bytes.
+#[tactic(auto, using(crate::proofs::ProgramLaws::over_limit, crate::proofs::ProgramLaws::over_leaves, crate::proofs::ProgramLaws::within_limit))]
 fn limited_text(file: &[u8], room: &mut [u8]) -> Answer
     ensures answer { result ≡ program_answer (length room.old) file.now }
     ensures leaves { room.new ≡ program_leaves file.now room.old }
