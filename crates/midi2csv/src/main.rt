@@ -1,6 +1,8 @@
 // Writes the text of the MIDI file on standard input, or "refused N at P".
 #![tactic(auto)]
 
-fn main() {
-    midi2csv_io::convert(libc::STDIN_FILENO);
+use std::io;
+
+fn main(rt: HostRuntime) -> io::Result<()> {
+    midi2csv_io::convert(&rt, &mut rt.stdin())
 }

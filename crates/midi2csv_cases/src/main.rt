@@ -1,28 +1,27 @@
 // Runs what midi2csv runs on further files: refusals, and files at its limits and past them.
 #![tactic(auto)]
 
-use libc::STDOUT_FILENO;
+use std::rt::Files;
+use std::{fs, io};
 
-fn convert_file(path: &[u8]) {
-    let fd = os::open_read(path);
-    if fd < 0 {
-        os::fail(path);
-        return;
-    }
-    io::write_all(STDOUT_FILENO, path);
-    io::write_all(STDOUT_FILENO, b": ");
-    midi2csv_io::convert(fd);
-    libc::close(fd);
+fn convert_file(rt: &(impl Files + Print + Eprint), path: &str) -> io::Result<()> {
+    let mut file = match fs::open(rt, path) {
+        Ok(file) => file,
+        // The other files are converted all the same.
+        Err(error) => return eprintln!(rt; "{path}: {error}"),
+    };
+    print!(rt; "{path}: ")?;
+    midi2csv_io::convert(rt, &mut file)
 }
 
-fn main() {
-    convert_file(b"empty.mid");
-    convert_file(b"film_division.mid");
-    convert_file(b"rate_26.mid");
-    convert_file(b"after_end_track.mid");
-    convert_file(b"other_chunks.mid");
-    convert_file(b"further_track.mid");
-    convert_file(b"over_limit.mid");
-    convert_file(b"over_room.mid");
-    convert_file(b"at_limits.mid");
+fn main(rt: HostRuntime) -> io::Result<()> {
+    convert_file(&rt, "empty.mid")?;
+    convert_file(&rt, "film_division.mid")?;
+    convert_file(&rt, "rate_26.mid")?;
+    convert_file(&rt, "after_end_track.mid")?;
+    convert_file(&rt, "other_chunks.mid")?;
+    convert_file(&rt, "further_track.mid")?;
+    convert_file(&rt, "over_limit.mid")?;
+    convert_file(&rt, "over_room.mid")?;
+    convert_file(&rt, "at_limits.mid")
 }

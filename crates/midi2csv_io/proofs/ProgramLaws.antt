@@ -23,6 +23,10 @@ module _ (file old : List ℕ) where
   unfolding program_answer program_leaves
   over_limit h = let no = lt-leb (length file) input_limit h in (sym (pick_false _ _ no), sym (pick_false _ _ no))
 
+  -- the second fact alone, for a goal that has no answer in it
+  pub over_leaves : input_limit < length file → old ≡ program_leaves file old
+  over_leaves h = (over_limit h).1
+
   pub within_limit : length file ≤ input_limit → (written_answer as_text (length old) (read_file file) ≡ program_answer (length old) file) × (written_leaves as_text (read_file file) old ≡ program_leaves file old)
   unfolding program_answer program_leaves
   within_limit h = let yes = le-leb (length file) input_limit h in (sym (pick_true _ _ yes), sym (pick_true _ _ yes))

@@ -5,13 +5,21 @@
 ghost use Rattle.std.specs.Prelude.{◌≡◌, ◌≤◌, length};
 ghost use Rattle.midi2csv_io.specs.Program.{program_answer, program_leaves};
 
-use libc::STDOUT_FILENO;
 use smf::Answer;
+use std::io;
+use std::io::Read;
+
+// One byte over the limit of limited_text: a full buffer tells that there was more.
+const FILE_ROOM: usize = 16385;
+
+// The longest text that is written.
+const TEXT_ROOM: usize = 65536;
 
 // File to text, in a program that takes no more than 16,384 bytes.
+#[tactic(auto, using(crate::proofs::ProgramLaws::over_limit, crate::proofs::ProgramLaws::over_leaves, crate::proofs::ProgramLaws::within_limit))]
 fn limited_text(file: &[u8], room: &mut [u8]) -> Answer
-    ensures fact_1 { result ≡ program_answer (length room.old) file.now }
-    ensures fact_2 { room.new ≡ program_leaves file.now room.old }
+    ensures answer { result ≡ program_answer (length room.old) file.now }
+    ensures leaves { room.new ≡ program_leaves file.now room.old }
 {
     if 16384 < file.len() {
         return Answer::refusal(1, 0);
@@ -19,31 +27,40 @@ fn limited_text(file: &[u8], room: &mut [u8]) -> Answer
     midicsv_write::to_text::file_to_text(file, room)
 }
 
-fn write_refusal(number: u8, place: usize) {
-    io::write_all(STDOUT_FILENO, b"refused ");
-    io::print_decimal(STDOUT_FILENO, number as u64);
-    io::write_all(STDOUT_FILENO, b" at ");
-    io::print_decimal(STDOUT_FILENO, place as u64);
-    io::write_all(STDOUT_FILENO, b"\n");
+fn write_refusal(rt: &impl Print, number: u8, place: usize) -> io::Result<()> {
+    println!(rt; "refused {number} at {place}")
 }
 
 // Converts a file that was read, and writes its text or why it is refused.
-fn convert_file(file: &[u8], room: &mut [u8]) {
+fn convert_file(rt: &impl Print, file: &[u8], room: &mut [u8]) -> io::Result<()> {
     let answer = limited_text(file, room);
-    let number = answer.number;
-    let length = answer.length;
-    if number == 0 {
-        io::write_all(STDOUT_FILENO, &room[..length]);
+    if answer.number == 0 {
+        rt.write_all(&room[..answer.length])
     } else {
-        write_refusal(number, answer.place);
+        write_refusal(rt, answer.number, answer.place)
     }
 }
 
-// Converts what a descriptor gives until its end; a read that fails counts as the end.
-pub fn convert(fd: i32) {
-    // One byte over the limit: a full buffer tells that there was more.
-    let mut file = [0u8; 16385];
-    let got = io::read_full(fd, &mut file);
-    let mut room = io::large_buffer();
-    convert_file(&file[..got], &mut room);
+// Reads until the buffer is full or the source ends, and says how many bytes came.
+fn read_full(source: &mut impl Read, buffer: &mut [u8]) -> usize
+    ensures { result ≤ length buffer.new }
+{
+    let mut filled = 0;
+    // Every read but the last brings a byte or more, so no more reads than bytes are wanted.
+    for _ in 0..buffer.len() {
+        let got = source.read(&mut buffer[filled..]).unwrap_or(0);
+        if got == 0 {
+            break;
+        }
+        filled += got;
+    }
+    filled
+}
+
+// Converts what a source gives until its end; a read that fails counts as the end.
+pub fn convert(rt: &impl Print, source: &mut impl Read) -> io::Result<()> {
+    let mut file = [0; FILE_ROOM];
+    let got = read_full(source, &mut file);
+    let mut room = [0; TEXT_ROOM];
+    convert_file(rt, &file[..got], &mut room)
 }
