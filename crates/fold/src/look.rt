@@ -11,6 +11,9 @@ ghost use Rattle.fold.specs.Code.Row.{TracksRead};
 use event::{EventKind, EventStep, Time};
 use smf::{Answer, ChunkStep};
 
+// Fewer tracks than so many may have a Channel_prefix or a MIDI_port.
+const SEVERAL: usize = 2;
+
 // Whether the event is Channel_prefix or MIDI_port.
 fn is_prefix_or_port(kind: EventKind) -> bool
     ensures { result ≡ prefix_or_port_of kind }
@@ -89,7 +92,7 @@ pub fn look(file: &[u8], count: usize, first: usize) -> Answer
     requires { TracksRead file.now count first }
     ensures { result ≡ look_answer (several_free count (placed_from file.now count first) fine) }
 {
-    if count < 2 {
+    if count < SEVERAL {
         return Answer::success(0);
     }
     scan_tracks(file, count, first)

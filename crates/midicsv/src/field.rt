@@ -10,12 +10,18 @@ ghost use Rattle.midicsv.specs.Record.{data_fields, tail_fields};
 use super::spell::put_cell_text;
 use event_write::bytes::put_byte;
 
+// The quote, which is written twice in a text.
+const DOUBLED: u8 = 34;
+
+// Numbers below it have one digit.
+const TEN: u32 = 10;
+
 // A number in decimal: the digits before the last, then the last.
 pub fn put_decimal(out: &mut [u8], at: usize, n: u32) -> usize
     requires { at < 2 ^ 47 }
     ensures { Written out.old at (decimal n) out.new result }
 {
-    if n < 10 {
+    if n < TEN {
         return put_byte(out, at, 48 + (n % 10) as u8);
     }
     let m = put_decimal(out, at, n / 10);
@@ -40,7 +46,7 @@ fn put_escaped(out: &mut [u8], at: usize, c: u8) -> usize
     requires { at < 2 ^ 47 }
     ensures { Written out.old at (escape c) out.new result }
 {
-    if c == 34 {
+    if c == DOUBLED {
         let a = put_byte(out, at, 34);
         return put_byte(out, a, 34);
     }

@@ -8,6 +8,9 @@ use super::byte::is_letter;
 use super::truth::is_truth;
 use event_write::bytes::put_byte;
 
+// The full stop: the last of the marks before the digits.
+const LAST_MARK: u8 = 46;
+
 // A longer text is all in octal: cut off at a spreadsheet's limit it is refused.
 const LONGEST: usize = 8191;
 
@@ -24,7 +27,7 @@ fn is_mark(c: u8) -> bool
     if c < 45 {
         return false;
     }
-    if c <= 46 {
+    if c <= LAST_MARK {
         return true;
     }
     if c == 58 {

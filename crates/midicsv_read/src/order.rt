@@ -15,6 +15,9 @@ use midicsv_record::line::read_line;
 use midicsv_record::{LineStep, Row};
 use midicsv_scan::frame::{passed_over, trim};
 
+// The longest step between two events.
+const MOST_DELTA: u32 = 268435455;
+
 // Whether a Header, Start_track or End_of_file has this Track and the Time 0.
 fn is_marked(row: Row, track: u32) -> bool
     ensures { result ≡ (eqb row.track track && eqb row.time 0) }
@@ -170,7 +173,7 @@ fn take_event(out: &mut [u8], st: Progress, row: Row, line: &[u8], short: bool) 
         Since::Before => Step::Bad { number: 26 },
         Since::After(delta) => {
             let d = delta.0;
-            if 268435455 < d {
+            if MOST_DELTA < d {
                 return Step::Bad { number: 27 };
             }
             put_event(out, st, delta, row, line, short)

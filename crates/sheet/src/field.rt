@@ -10,6 +10,8 @@ ghost use Rattle.sheet.specs.Code.Cell.{content_of};
 use super::part::after_byte;
 use event_write::bytes::{put_byte, put_bytes};
 
+const COMMA: u8 = 44;
+
 // Whether a comma or a quote is among the bytes.
 fn needs_quotes(raw: &[u8]) -> bool
     ensures { result ≡ (has 44 raw.now || has 34 raw.now) }
@@ -17,7 +19,7 @@ fn needs_quotes(raw: &[u8]) -> bool
     let mut p = 0;
     while p < raw.len() {
         let c = raw[p];
-        if c == 44 {
+        if c == COMMA {
             return true;
         }
         if c == 34 {

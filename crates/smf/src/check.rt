@@ -10,6 +10,9 @@ use super::track::read_track;
 use super::{Answer, HeaderStep, TRACK_TAG, TrackStep, TracksStep};
 use event::number::four_byte_number;
 
+// The longest file that is read, in bytes.
+const FILE_LIMIT: usize = 1048576;
+
 // So many tracks from a place on.
 fn read_tracks(file: &[u8], count: u32, first: usize) -> TracksStep
     requires { first ≤ length file.now }
@@ -45,7 +48,8 @@ fn after_tracks(file: &[u8], from: usize) -> Answer
         if file.len() - at < 8 {
             return Answer::refusal(2, at);
         }
-        if four_byte_number(file, at) == TRACK_TAG {
+        let is_track = four_byte_number(file, at) == TRACK_TAG;
+        if is_track {
             return Answer::refusal(13, at);
         }
         let start = at + 8;
@@ -63,7 +67,7 @@ pub fn check(file: &[u8]) -> Answer
     ensures fact_1 { result ≡ verdict (read_file file.now) }
     ensures fact_2 { Demand3 file.now result.number }
 {
-    if 1048576 < file.len() {
+    if FILE_LIMIT < file.len() {
         return Answer::refusal(1, 0);
     }
     match read_header(file) {

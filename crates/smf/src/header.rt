@@ -77,7 +77,8 @@ pub fn read_header(file: &[u8]) -> HeaderStep
         return bad(3, 0);
     }
     let size = four_byte_number(file, 4);
-    if size < 6 {
+    let too_short = size < 6;
+    if too_short {
         return bad(3, 4);
     }
     let len = size as usize;

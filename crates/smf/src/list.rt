@@ -75,13 +75,15 @@ pub fn list_tracks(file: &[u8], ends: &mut [u32], counts: &mut [u32], padding: &
             next,
         } => {
             let tracks = count as usize;
-            if ends.len() < tracks {
+            let times = ends.len();
+            if times < tracks {
                 return Answer::room_needed(tracks);
             }
             if counts.len() < tracks {
                 return Answer::room_needed(tracks);
             }
-            if padding.len() < tracks {
+            let third = padding.len();
+            if third < tracks {
                 return Answer::room_needed(tracks);
             }
             fill(file, tracks, next, ends, counts, padding);

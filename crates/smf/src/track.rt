@@ -35,7 +35,8 @@ pub fn next_track(file: &[u8], from: usize) -> ChunkStep
             return cut(at);
         }
         let end = start + len;
-        if four_byte_number(file, at) == TRACK_TAG {
+        let is_track = four_byte_number(file, at) == TRACK_TAG;
+        if is_track {
             return ChunkStep::Body { start, end };
         }
         at = end;

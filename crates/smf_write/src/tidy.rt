@@ -15,6 +15,9 @@ use event::{Delta, EventKind, EventStep, Since, Time};
 use event_write::bytes::{put_bytes, put_four, put_two};
 use smf::{Answer, ChunkStep, HEADER_TAG, HeaderStep, TRACK_TAG};
 
+// The longest file that is written, in bytes.
+const FILE_LIMIT: usize = 1048576;
+
 // An event of a track's body, with its data; force is the status in force before it.
 pub fn put_event(
     out: &mut [u8],
@@ -168,7 +171,7 @@ pub fn tidy(file: &[u8], out: &mut [u8]) -> Answer
         return verdict;
     }
     let need = put_file(&mut out[..0], file, true);
-    if 1048576 < need {
+    if FILE_LIMIT < need {
         return Answer::refusal(29, 0);
     }
     if out.len() < need {

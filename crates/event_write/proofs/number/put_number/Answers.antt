@@ -6,21 +6,21 @@ use Rattle.event_write.proofs.WriteLaws.{then}
 use native.Mathlib.Omega.{arith}
 use Rattle.event_write.proofs.number.put_number.Goals as goal
 
-pub returns-then-n-le127 : goal.returns-then-n-le127
+pub returns-then-n-le-MOST_IN_ONE : goal.returns-then-n-le-MOST_IN_ONE
 unfolding fewest vlq
-returns-then-n-le127 c = rw (in_one (c.args.number % 268435456) (omega arith)) c.put_byte.ensures
+returns-then-n-le-MOST_IN_ONE c = rw (in_one (c.args.number % 268435456) (omega arith)) c.put_byte.ensures
 
-pub returns-then-n-le16383 : goal.returns-then-n-le16383
+pub returns-then-n-le-MOST_IN_TWO : goal.returns-then-n-le-MOST_IN_TWO
 unfolding fewest vlq
-returns-then-n-le16383 c =
+returns-then-n-le-MOST_IN_TWO c =
     rw (in_two (c.args.number % 268435456) (omega arith) (omega arith))
-    (then c.put_byte-a.ensures c.put_byte-then-n-le16383.ensures)
+    (then c.put_byte-a.ensures c.put_byte-then-n-le-MOST_IN_TWO.ensures)
 
-pub returns-then-n-le2097151 : goal.returns-then-n-le2097151
+pub returns-then-n-le-MOST_IN_THREE : goal.returns-then-n-le-MOST_IN_THREE
 unfolding fewest vlq
-returns-then-n-le2097151 c =
+returns-then-n-le-MOST_IN_THREE c =
     rw (in_three (c.args.number % 268435456) (omega arith) (omega arith))
-    (then c.put_byte-a-then-n-le2097151.ensures (then c.put_byte-b.ensures c.put_byte-then-n-le2097151.ensures))
+    (then c.put_byte-a-then-n-le-MOST_IN_THREE.ensures (then c.put_byte-b.ensures c.put_byte-then-n-le-MOST_IN_THREE.ensures))
 
 pub returns : goal.returns
 unfolding fewest vlq

@@ -4,8 +4,8 @@ use native.Mathlib.Omega.{arith}
 use mathlib.Core.Path.{◌∙◌}
 use Rattle.fold.proofs.look.look.Goals as goal
 
-pub returns-then-count-lt2 : goal.returns-then-count-lt2
-returns-then-count-lt2 c = let a = c.args in c.success.ensures ∙ look_few (placed_from a.file.now a.count a.first) a.count (omega (arith, c.if-count-lt2.true))
+pub returns-then-count-lt-SEVERAL : goal.returns-then-count-lt-SEVERAL
+returns-then-count-lt-SEVERAL c = let a = c.args in c.success.ensures ∙ look_few (placed_from a.file.now a.count a.first) a.count (omega (arith, c.if-count-lt-SEVERAL.true))
 
 pub returns : goal.returns
-returns c = let a = c.args in look_many (placed_from a.file.now a.count a.first) a.count _ (omega (arith, c.if-count-lt2.false)) c.scan_tracks.ensures
+returns c = let a = c.args in look_many (placed_from a.file.now a.count a.first) a.count _ (omega (arith, c.if-count-lt-SEVERAL.false)) c.scan_tracks.ensures

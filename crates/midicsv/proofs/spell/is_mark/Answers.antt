@@ -21,9 +21,9 @@ unfolding is_mark
 returns-then-c-lt45 c =
     let x = c.args.c in rw (ne_eqb x 33 (λ e. omega arith), ne_eqb x 58 (λ e. omega arith), ne_eqb x 63 (λ e. omega arith), le-leb 39 x (omega arith), lt-leb x 43 (omega arith), lt-leb 45 x (omega arith))
 
-pub returns-then-c-le46 : goal.returns-then-c-le46
+pub returns-then-c-le-LAST_MARK : goal.returns-then-c-le-LAST_MARK
 unfolding is_mark
-returns-then-c-le46 c =
+returns-then-c-le-LAST_MARK c =
     let x = c.args.c in rw (ne_eqb x 33 (λ e. omega arith), ne_eqb x 58 (λ e. omega arith), ne_eqb x 63 (λ e. omega arith), le-leb 39 x (omega arith), lt-leb x 43 (omega arith), le-leb 45 x (omega arith), le-leb x 46 (omega arith))
 
 pub returns-then-c-eq58 : goal.returns-then-c-eq58

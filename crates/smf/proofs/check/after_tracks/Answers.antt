@@ -10,15 +10,15 @@ loop-at-init c = refl
 pub returns-then-file-at-lt8 : goal.returns-then-file-at-lt8
 returns-then-file-at-lt8 c = c.refusal.ensures ∙ behind_few c.args.file.now c.loop-at.at c.loop-at-test.true (omega arith) ∙ c.loop-at.invariant
 
-pub returns-then-four_byte_number-eq-TRACK_TAG : goal.returns-then-four_byte_number-eq-TRACK_TAG
-returns-then-four_byte_number-eq-TRACK_TAG c = c.refusal-then-four_byte_number-eq-TRACK_TAG.ensures ∙ behind_track c.args.file.now c.loop-at.at c.loop-at-test.true (omega arith) c.four_byte_number.result c.four_byte_number.ensures c.if-four_byte_number-eq-TRACK_TAG.true ∙ c.loop-at.invariant
+pub returns-then-is_track : goal.returns-then-is_track
+returns-then-is_track c = c.refusal-then-is_track.ensures ∙ behind_track c.args.file.now c.loop-at.at c.loop-at-test.true (omega arith) c.four_byte_number-is_track.result c.four_byte_number-is_track.ensures c.if-is_track.true ∙ c.loop-at.invariant
 
 pub returns-then-file-start : goal.returns-then-file-start
-returns-then-file-start c = c.refusal-then-file-start.ensures ∙ behind_long c.args.file.now c.loop-at.at c.loop-at-test.true (omega arith) c.four_byte_number.result c.four_byte_number.ensures c.if-four_byte_number-eq-TRACK_TAG.false c.four_byte_number-len.result c.four_byte_number-len.ensures c.if-file-start.true ∙ c.loop-at.invariant
+returns-then-file-start c = c.refusal-then-file-start.ensures ∙ behind_long c.args.file.now c.loop-at.at c.loop-at-test.true (omega arith) c.four_byte_number-is_track.result c.four_byte_number-is_track.ensures c.if-is_track.false c.four_byte_number-len.result c.four_byte_number-len.ensures c.if-file-start.true ∙ c.loop-at.invariant
 
 pub loop-at-preserved : goal.loop-at-preserved
 loop-at-preserved c = let s = c.args.file.now in
-    sym (behind_pass s c.loop-at.at c.loop-at-test.true (omega arith) c.four_byte_number.result c.four_byte_number.ensures c.if-four_byte_number-eq-TRACK_TAG.false c.four_byte_number-len.result c.four_byte_number-len.ensures (bytes_of s (λ i. omega (arith, c.type_inv.file i))) (omega arith)) ∙ c.loop-at.invariant
+    sym (behind_pass s c.loop-at.at c.loop-at-test.true (omega arith) c.four_byte_number-is_track.result c.four_byte_number-is_track.ensures c.if-is_track.false c.four_byte_number-len.result c.four_byte_number-len.ensures (bytes_of s (λ i. omega (arith, c.type_inv.file i))) (omega arith)) ∙ c.loop-at.invariant
 
 pub returns : goal.returns
 returns c = c.success.ensures ∙ behind_end c.args.file.now c.loop-at.at c.loop-at-test.false ∙ c.loop-at.invariant

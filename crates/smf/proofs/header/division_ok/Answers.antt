@@ -1,4 +1,3 @@
-use Rattle.smf.proofs.header.division_ok.Goals.{then-this-lt228, else-this-lt228+else-this-lt231+then-this-lt233}
 use native.Mathlib.Omega.{arith}
 use Rattle.smf.proofs.DivisionLaws.{low_ok, high_ok, high_not, rate_low, rate_high, rate_none}
 use Rattle.smf.proofs.header.division_ok.Goals as goal
@@ -7,11 +6,7 @@ pub returns-then-bits-le-MOST_PULSES : goal.returns-then-bits-le-MOST_PULSES
 returns-then-bits-le-MOST_PULSES c = low_ok _ c.if-bits-le-MOST_PULSES.true
 
 pub returns-in-226 : goal.returns-in-226
-returns-in-226 c =
-    elim c.in-226-1.branch [
-      | then-this-lt228 w ↦ high_ok _ c.if-bits-le-MOST_PULSES.false (rate_low _ (omega arith) (omega arith))
-      | else-this-lt228+else-this-lt231+then-this-lt233 w ↦ high_ok _ c.if-bits-le-MOST_PULSES.false (rate_high _ (omega arith) (omega arith))
-    ]
+returns-in-226 c = high_ok _ c.if-bits-le-MOST_PULSES.false (grind (arith, rate_low, rate_high))
 
 pub returns-in_default : goal.returns-in_default
 returns-in_default c = high_not _ c.if-bits-le-MOST_PULSES.false (rate_none _ (λ e. omega arith) (λ e. omega arith) (λ e. omega arith) (λ e. omega arith))

@@ -24,8 +24,8 @@ returns-then-refused-ne0 c = let a = c.args in
     let third = refused_leaves (paddings_in s) n m o _ v a.padding.now judged no in
     record { fact_1 = answer; fact_2 = refused_leaves end_times n m o _ v a.ends.now judged no; fact_3 = refused_leaves event_counts n m o _ v a.counts.now judged no; fact_4 = third; fact_5 = told_by s bytes n m o a.padding.now _ _ answer third }
 
-pub returns-then-ends-tracks : goal.returns-then-ends-tracks
-returns-then-ends-tracks c = let a = c.args in
+pub returns-then-times-tracks : goal.returns-then-times-tracks
+returns-then-times-tracks c = let a = c.args in
     let s = a.file.now in
     let n = length a.ends.now in
     let m = length a.counts.now in
@@ -37,7 +37,7 @@ returns-then-ends-tracks c = let a = c.args in
     let there = file_accepted s c.in-Fields.format c.in-Fields.count c.in-Fields.division c.in-Fields.next bytes came (judged_readable s v bytes judged c.if-refused-ne0.false) in
     let b = c.in-Fields.count in
     let at = c.in-Fields.next in
-    let short = room_first n m o b c.if-ends-tracks.true in
+    let short = room_first n m o b c.if-times-tracks.true in
     let left = short_leaves_lem s b at there n m o short in
     let answer = c.room_needed.ensures ∙ short_answer_lem s b at there n m o short in
     let third = left (paddings_in s) a.padding.now in
@@ -56,14 +56,14 @@ returns-then-counts-tracks c = let a = c.args in
     let there = file_accepted s c.in-Fields.format c.in-Fields.count c.in-Fields.division c.in-Fields.next bytes came (judged_readable s v bytes judged c.if-refused-ne0.false) in
     let b = c.in-Fields.count in
     let at = c.in-Fields.next in
-    let short = room_second n m o b c.if-ends-tracks.false c.if-counts-tracks.true in
+    let short = room_second n m o b c.if-times-tracks.false c.if-counts-tracks.true in
     let left = short_leaves_lem s b at there n m o short in
     let answer = c.room_needed-then-counts-tracks.ensures ∙ short_answer_lem s b at there n m o short in
     let third = left (paddings_in s) a.padding.now in
     record { fact_1 = answer; fact_2 = left end_times a.ends.now; fact_3 = left event_counts a.counts.now; fact_4 = third; fact_5 = told_by s bytes n m o a.padding.now _ _ answer third }
 
-pub returns-then-padding-tracks : goal.returns-then-padding-tracks
-returns-then-padding-tracks c = let a = c.args in
+pub returns-then-third-tracks : goal.returns-then-third-tracks
+returns-then-third-tracks c = let a = c.args in
     let s = a.file.now in
     let n = length a.ends.now in
     let m = length a.counts.now in
@@ -75,9 +75,9 @@ returns-then-padding-tracks c = let a = c.args in
     let there = file_accepted s c.in-Fields.format c.in-Fields.count c.in-Fields.division c.in-Fields.next bytes came (judged_readable s v bytes judged c.if-refused-ne0.false) in
     let b = c.in-Fields.count in
     let at = c.in-Fields.next in
-    let short = room_third n m o b c.if-ends-tracks.false c.if-counts-tracks.false c.if-padding-tracks.true in
+    let short = room_third n m o b c.if-times-tracks.false c.if-counts-tracks.false c.if-third-tracks.true in
     let left = short_leaves_lem s b at there n m o short in
-    let answer = c.room_needed-then-padding-tracks.ensures ∙ short_answer_lem s b at there n m o short in
+    let answer = c.room_needed-then-third-tracks.ensures ∙ short_answer_lem s b at there n m o short in
     let third = left (paddings_in s) a.padding.now in
     record { fact_1 = answer; fact_2 = left end_times a.ends.now; fact_3 = left event_counts a.counts.now; fact_4 = third; fact_5 = told_by s bytes n m o a.padding.now _ _ answer third }
 
@@ -95,7 +95,7 @@ fill-requires c = let a = c.args in
     let b = c.in-Fields.count in
     let at = c.in-Fields.next in
     let head = head_at s c.in-Fields.format c.in-Fields.count c.in-Fields.division c.in-Fields.next bytes came in
-    record { fact_1 = head.inside; fact_2 = accepted_readable s b at there; fact_3 = c.if-ends-tracks.false; fact_4 = c.if-counts-tracks.false; fact_5 = c.if-padding-tracks.false }
+    record { fact_1 = head.inside; fact_2 = accepted_readable s b at there; fact_3 = c.if-times-tracks.false; fact_4 = c.if-counts-tracks.false; fact_5 = c.if-third-tracks.false }
 
 pub returns-in-BadHeader : goal.returns-in-BadHeader
 returns-in-BadHeader c = let a = c.args in
@@ -108,8 +108,8 @@ returns-in-BadHeader c = let a = c.args in
     let bytes = bytes_of s (λ i. omega (arith, c.type_inv.file i)) in
     absurd (header_there s c.in-BadHeader.number c.in-BadHeader.place (sym c.read_header.ensures ∙ c.in-BadHeader.is) (judged_readable s v bytes judged c.if-refused-ne0.false))
 
-pub returns-else-padding-tracks : goal.returns-else-padding-tracks
-returns-else-padding-tracks c = let a = c.args in
+pub returns-else-third-tracks : goal.returns-else-third-tracks
+returns-else-third-tracks c = let a = c.args in
     let s = a.file.now in
     let n = length a.ends.now in
     let m = length a.counts.now in
@@ -121,9 +121,9 @@ returns-else-padding-tracks c = let a = c.args in
     let there = file_accepted s c.in-Fields.format c.in-Fields.count c.in-Fields.division c.in-Fields.next bytes came (judged_readable s v bytes judged c.if-refused-ne0.false) in
     let b = c.in-Fields.count in
     let at = c.in-Fields.next in
-    let one = c.if-ends-tracks.false in
+    let one = c.if-times-tracks.false in
     let two = c.if-counts-tracks.false in
-    let three = c.if-padding-tracks.false in
+    let three = c.if-third-tracks.false in
     let fits = room_yes n m o b one two three in
     let fine = fine_leaves s b at there n m o fits in
     let answer = c.success.ensures ∙ fine_answer s b at there n m o fits in

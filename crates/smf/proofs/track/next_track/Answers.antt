@@ -16,9 +16,9 @@ returns-then-file-at c = c.cut-then-file-at.ensures ∙ chunk_short c.args.file.
 pub returns-then-file-start : goal.returns-then-file-start
 returns-then-file-start c = c.cut-then-file-start.ensures ∙ chunk_long c.args.file.now c.loop-from.at (omega arith) _ refl c.four_byte_number-len.result c.four_byte_number-len.ensures c.if-file-start.true ∙ c.loop-from.invariant
 
-pub returns-then-four_byte_number-eq-TRACK_TAG : goal.returns-then-four_byte_number-eq-TRACK_TAG
-returns-then-four_byte_number-eq-TRACK_TAG c = chunk_fine c.args.file.now c.loop-from.at (omega arith) c.four_byte_number.result c.four_byte_number.ensures c.four_byte_number-len.result c.four_byte_number-len.ensures (omega arith) c.if-four_byte_number-eq-TRACK_TAG.true ∙ c.loop-from.invariant
+pub returns-then-is_track : goal.returns-then-is_track
+returns-then-is_track c = chunk_fine c.args.file.now c.loop-from.at (omega arith) c.four_byte_number-is_track.result c.four_byte_number-is_track.ensures c.four_byte_number-len.result c.four_byte_number-len.ensures (omega arith) c.if-is_track.true ∙ c.loop-from.invariant
 
 pub loop-from-preserved : goal.loop-from-preserved
 loop-from-preserved c = let s = c.args.file.now in
-    sym (chunk_pass s c.loop-from.at (omega arith) c.four_byte_number.result c.four_byte_number.ensures c.four_byte_number-len.result c.four_byte_number-len.ensures (omega arith) (bytes_of s (λ i. omega (arith, c.type_inv.file i))) c.if-four_byte_number-eq-TRACK_TAG.false) ∙ c.loop-from.invariant
+    sym (chunk_pass s c.loop-from.at (omega arith) c.four_byte_number-is_track.result c.four_byte_number-is_track.ensures c.four_byte_number-len.result c.four_byte_number-len.ensures (omega arith) (bytes_of s (λ i. omega (arith, c.type_inv.file i))) c.if-is_track.false) ∙ c.loop-from.invariant

@@ -25,9 +25,9 @@ put_file-need-requires c = let s = c.args.file.now in
     let there = accepted_file s v bytes judged c.if-refused-ne0.false in
     record { fact_1 = there.short; fact_2 = file_readable s there }
 
-pub returns-then-need-gt1048576 : goal.returns-then-need-gt1048576
+pub returns-then-need-gt-FILE_LIMIT : goal.returns-then-need-gt-FILE_LIMIT
 unfolding manner_of
-returns-then-need-gt1048576 c = let s = c.args.file.now in
+returns-then-need-gt-FILE_LIMIT c = let s = c.args.file.now in
     let old = c.args.out.now in
     let v = c.check-verdict.result in
     let judged = c.check-verdict.ensures.fact_1 in
@@ -37,7 +37,7 @@ returns-then-need-gt1048576 c = let s = c.args.file.now in
     let n = c.put_file-need.result in
     let size = measured m in
     let kept = ap length (unmeasured old m) in
-    let long = tidied s there old (write_long _ old n size c.if-need-gt1048576.true) in
+    let long = tidied s there old (write_long _ old n size c.if-need-gt-FILE_LIMIT.true) in
     record { fact_1 = c.refusal.ensures ∙ long.0; fact_2 = unmeasured old m ∙ long.1 }
 
 pub returns-then-out-need : goal.returns-then-out-need
@@ -52,7 +52,7 @@ returns-then-out-need c = let s = c.args.file.now in
     let n = c.put_file-need.result in
     let size = measured m in
     let kept = ap length (unmeasured old m) in
-    let room = tidied s there old (write_room _ old n size c.if-need-gt1048576.false (omega (arith, kept, c.if-out-need.true))) in
+    let room = tidied s there old (write_room _ old n size c.if-need-gt-FILE_LIMIT.false (omega (arith, kept, c.if-out-need.true))) in
     record { fact_1 = c.room_needed.ensures ∙ room.0; fact_2 = unmeasured old m ∙ room.1 }
 
 pub put_file-requires : goal.put_file-requires
@@ -76,5 +76,5 @@ returns c = let s = c.args.file.now in
     let n = c.put_file-need.result in
     let size = measured m in
     let kept = ap length (unmeasured old m) in
-    let fine = tidied s there old (write_fine _ old n size c.if-need-gt1048576.false (omega (arith, kept, c.if-out-need.false))) in
+    let fine = tidied s there old (write_fine _ old n size c.if-need-gt-FILE_LIMIT.false (omega (arith, kept, c.if-out-need.false))) in
     record { fact_1 = c.success.ensures ∙ fine.0; fact_2 = (after_measure m c.put_file.ensures).contents ∙ fine.1 }
