@@ -8,7 +8,9 @@ use super::bytes::put_byte;
 
 // The greatest numbers that fit one, two and three bytes.
 const MOST_IN_ONE: u32 = 127;
+
 const MOST_IN_TWO: u32 = 16383;
+
 const MOST_IN_THREE: u32 = 2097151;
 
 // A number of 28 bits in the fewest bytes.
