@@ -1,6 +1,6 @@
 -- The two manners of one event: each spelling is permitted where any is, the short one takes the fewest bytes, and either at most twice as many as any.
 use mathlib.Core.Path.{◌≡◌, refl}
-use Prim.Native.Nat.{ℕ, ◌-◌, ◌<◌, ◌≤◌}
+use Prim.Native.Nat.{ℕ, ◌*◌, ◌-◌, ◌<◌, ◌≤◌}
 use mathlib.Core.Bool.{Bool, true, false, false≢true}
 use mathlib.Core.List.{List, [], ◌∷◌, ◌++◌}
 use native.Mathlib.Omega.{arith}
@@ -104,6 +104,10 @@ status_fewest force (meta t d) false p = absurd p
 pub event_fewest : (prev force : ℕ) (e : Event) (s : Spelling) → Permitted prev force e s → Fewest (lay_event prev e (spell_event short prev force e)) (lay_event prev e s)
 event_fewest = event_beside short Fewest fewest_beside number_fewest status_fewest
 
+pub short_event : (prev force : ℕ) (e : Event) (s : Spelling) → Permitted prev force e s
+    → length (lay_event prev e (spell_event short prev force e)) ≤ length (lay_event prev e s)
+short_event prev force e s p = (event_fewest prev force e s p).no_more
+
 -- ---- either manner's are at most twice as many
 
 -- the status written before some data bytes
@@ -122,3 +126,7 @@ status_double full force (meta t d) o p = absurd p
 
 pub event_double : (m : Manner) (prev force : ℕ) (e : Event) (s : Spelling) → Permitted prev force e s → Double (lay_event prev e (spell_event m prev force e)) (lay_event prev e s)
 event_double m = event_beside m Double double_beside (λ w v h. omega (arith, (number_fewest w v h).no_more)) (status_double m)
+
+pub manner_event : (m : Manner) (prev force : ℕ) (e : Event) (s : Spelling) → Permitted prev force e s
+    → length (lay_event prev e (spell_event m prev force e)) ≤ 2 * length (lay_event prev e s)
+manner_event = event_double

@@ -182,3 +182,6 @@ number_fewest w v h =
     let ours = vlq_length (least v) v in
     let theirs = vlq_length w v in
     record { no_more = omega (arith, wide, ours, theirs); only = λ g. ap (λ x. vlq x v) (sym (only (omega (arith, g, ours, theirs)))) }
+
+pub least_fewest : (w : Width) (v : ℕ) → v < limit w → length (vlq (least v) v) ≤ length (vlq w v)
+least_fewest w v h = (number_fewest w v h).no_more

@@ -1,6 +1,6 @@
 -- The two manners: each spelling is permitted where any is, so its file is a layout and reads back.
 use mathlib.Core.Path.{◌≡◌, refl, ap}
-use Prim.Native.Nat.{ℕ, ◌≤◌}
+use Prim.Native.Nat.{ℕ, ◌*◌, ◌≤◌}
 use mathlib.Core.List.{List, [], ◌∷◌, ◌++◌}
 use native.Mathlib.Omega.{arith}
 use lib.ListN.{length, length-append}
@@ -72,8 +72,15 @@ pub events_double : (m : Manner) (prev force : ℕ) (es : List Event) (ss : List
     → Double (lay_events prev es (spell_events m prev force es)) (lay_events prev es ss)
 events_double m = events_beside m Double double_beside double_chunk (event_double m)
 
+pub manner_events : (m : Manner) (prev force : ℕ) (es : List Event) (ss : List Spelling) → PermittedEvents prev force es ss
+    → length (lay_events prev es (spell_events m prev force es)) ≤ 2 * length (lay_events prev es ss)
+manner_events = events_double
+
 pub tracks_double : (m : Manner) (ts : List (List Event)) (ss : List TrackSpelling) → PermittedTracks ts ss → Double (lay_tracks ts (spell_tracks m ts)) (lay_tracks ts ss)
 tracks_double m = tracks_beside m Double double_beside double_chunk (event_double m)
+
+pub manner_tracks : (m : Manner) (ts : List (List Event)) (ss : List TrackSpelling) → PermittedTracks ts ss → length (lay_tracks ts (spell_tracks m ts)) ≤ 2 * length (lay_tracks ts ss)
+manner_tracks = tracks_double
 
 -- the short manner's are the fewest, and no others are as few; the number of a chunk's bytes follows these
 fewest_chunk : (tag : ℕ) (x y : List ℕ) → Fewest x y → Fewest (lay_chunk tag x) (lay_chunk tag y)
@@ -86,6 +93,10 @@ fewest_chunk tag x y l =
 events_fewest : (prev force : ℕ) (es : List Event) (ss : List Spelling) → PermittedEvents prev force es ss
     → Fewest (lay_events prev es (spell_events short prev force es)) (lay_events prev es ss)
 events_fewest = events_beside short Fewest fewest_beside fewest_chunk event_fewest
+
+pub short_events : (prev force : ℕ) (es : List Event) (ss : List Spelling) → PermittedEvents prev force es ss
+    → length (lay_events prev es (spell_events short prev force es)) ≤ length (lay_events prev es ss)
+short_events prev force es ss p = (events_fewest prev force es ss p).no_more
 
 pub tracks_fewest : (ts : List (List Event)) (ss : List TrackSpelling) → PermittedTracks ts ss → Fewest (lay_tracks ts (spell_tracks short ts)) (lay_tracks ts ss)
 tracks_fewest = tracks_beside short Fewest fewest_beside fewest_chunk event_fewest

@@ -1,9 +1,9 @@
 -- Tidying's answers: they fit the exported number, and give no length above the file's.
 use mathlib.Core.Path.{◌≡◌, refl}
 use Prim.Native.Nat.{ℕ, ◌≤◌}
-use mathlib.Core.List.{List}
+use mathlib.Core.List.{List, ◌++◌}
 use native.Mathlib.Omega.{arith}
-use lib.ListN.{length}
+use lib.ListN.{length, drop}
 use lib.Dec.{leb}
 use borrow.Author.Tests.{leb-false, le-leb}
 use Rattle.event.specs.Bytes.{Bytes}
@@ -13,11 +13,14 @@ use Rattle.event.specs.Outcome.{Outcome, ok, refused}
 use Rattle.event.proofs.ChoiceLaws.{by_test}
 use Rattle.event.proofs.RefusalLaws.{Fair}
 use Rattle.smf.specs.Piece.{Piece}
+use Rattle.smf.specs.Layout.{LaidOut}
 use Rattle.smf.specs.Manner.{file_of}
 use Rattle.smf.specs.Reader.{file_limit, read_file}
-use Rattle.smf.specs.Answer.{verdict}
-use Rattle.smf.specs.Writing.{write_answer, short_answer}
+use Rattle.smf.specs.Answer.{success, verdict}
+use Rattle.smf.specs.Writing.{write_answer, write_leaves, short_answer, short_leaves}
+use Rattle.smf.proofs.DemandLaws.{laid_read}
 use Rattle.smf.proofs.FileLaws.{file_sound}
+use Rattle.smf.proofs.MannerLaws.{short_laid}
 use Rattle.smf.proofs.RefusalLaws.{file_fair, place_small}
 use Rattle.smf.proofs.SmallestLaws.{nothing_smaller}
 use Rattle.smf.proofs.WritingLaws.{Fits28, write_fits}
@@ -50,3 +53,17 @@ longer_with room f (ok p r) bs e fair =
 
 pub no_longer : (room : ℕ) (f : List ℕ) → Bytes f → NoLonger room f (read_file f)
 no_longer room f bs = longer_with room f (read_file f) bs refl (file_fair f bs)
+
+-- ---- tidying the manner 1 file of a piece gives it back
+
+pub record TidiedToItself (p : Piece) (old : List ℕ) : Type 0 where
+  pub answer : short_answer (length old) (read_file (file_of short p)) ≡ success (length (file_of short p))
+  pub contents : short_leaves (read_file (file_of short p)) old ≡ file_of short p ++ drop (length (file_of short p)) old
+
+pub tidy_again : (f : List ℕ) (p : Piece) → LaidOut f p → (old : List ℕ) → length (file_of short p) ≤ file_limit → length (file_of short p) ≤ length old → TidiedToItself p old
+unfolding short_answer short_leaves write_answer write_leaves pick
+tidy_again f p l old h g =
+    let e = laid_read (file_of short p) p (short_laid f p l) h in
+    let x = le-leb (length (file_of short p)) file_limit h in
+    let y = le-leb (length (file_of short p)) (length old) g in
+    record { answer = rw (e, x, y) refl; contents = rw (e, x, y) refl }

@@ -4,7 +4,8 @@
 
 use second::archive;
 use second::generate::{
-    good_file, many_tracks_case, opened, padded_case, piece, plain_text, saved, sung_file, Rng,
+    file_case, good_file, many_tracks_case, opened, padded_case, piece, plain_text, saved,
+    sung_file, Rng,
 };
 use second::nothing_smaller::{self, Program};
 use second::outside::{expected, expected_back, expected_fold, outside_files, saved_tables};
@@ -28,6 +29,40 @@ pub fn nothing_smaller(cases: u64, first: u64) -> Vec<bool> {
         nothing_smaller::all(&ARCHIVE).report(),
         nothing_smaller::beside(&ARCHIVE).report(),
     ]
+}
+
+/// Outside files tidy to what csvmidi makes of their text, whatever their
+/// spelling: as found, in manner 0, and in manner 1, which so tidies to itself.
+pub fn outside_tidied() -> bool {
+    let (mut files, mut faults) = (0, 0);
+    for (name, file) in outside_files() {
+        files += 1;
+        let short = expected_back(&name, "short.mid");
+        for spelling in [&file, &expected_back(&name, "full.mid"), &short] {
+            if tidied(spelling).as_ref() != Ok(&short) {
+                faults += 1;
+                println!("FAULT: outside file {name}, in some spelling, is tidied wrongly");
+            }
+        }
+    }
+    println!("tidy: {files} outside files in 3 spellings, {faults} faults");
+    faults == 0 && files > 0
+}
+
+/// What the archive tidies it tidies to itself.
+pub fn tidied_twice(cases: u64, first: u64) -> bool {
+    let (mut count, mut faults) = (0, 0);
+    for seed in first..first + cases {
+        if let Ok(once) = tidied(&file_case(seed)) {
+            count += 1;
+            if tidied(&once).as_ref() != Ok(&once) {
+                faults += 1;
+                println!("FAULT: seed {seed} is tidied to a file which is not tidy");
+            }
+        }
+    }
+    println!("tidy: {count} generated files tidied twice, {faults} faults");
+    faults == 0 && count > 0
 }
 
 /// Outside files have the text that midicsv makes of them, in exact room and in

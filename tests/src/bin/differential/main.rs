@@ -13,8 +13,8 @@ use std::process::ExitCode;
 
 use alone::{
     files_forth_and_back, folded_twice, made, nothing_smaller, outside_back, outside_folded,
-    outside_listed, outside_texts, saved_sheets, sheets_forth_and_back, texts_forth_and_back,
-    tidied_listed,
+    outside_listed, outside_texts, outside_tidied, saved_sheets, sheets_forth_and_back,
+    texts_forth_and_back, tidied_listed, tidied_twice,
 };
 use second::archive;
 use second::compare::{Compared, Operation};
@@ -116,7 +116,11 @@ const PARTS: [Part; 8] = [
         // more bytes than the spelling it had (Wish 10). So 29 counts as a fault here.
         let run = of_files(Run::of(&TIDY).of_few(few), every_division::short_file);
         let run = of_first_bytes(run, every_first_byte::short_file);
-        let mut good = vec![on_files(run, &written(), cases / 2, first)];
+        let mut good = vec![
+            on_files(run, &written(), cases / 2, first),
+            outside_tidied(),
+            tidied_twice(cases / 10, first),
+        ];
         good.extend(nothing_smaller(cases / 10, first));
         good
     }),
