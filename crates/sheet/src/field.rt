@@ -10,7 +10,8 @@ ghost use Rattle.sheet.specs.Code.Cell.{content_of};
 use super::part::after_byte;
 use event_write::bytes::{put_byte, put_bytes};
 
-const COMMA: u8 = 44;
+// The comma, which ends a field that has no quotes.
+const FIELD_END: u8 = 44;
 
 // Whether a comma or a quote is among the bytes.
 fn needs_quotes(raw: &[u8]) -> bool
@@ -19,7 +20,7 @@ fn needs_quotes(raw: &[u8]) -> bool
     let mut p = 0;
     while p < raw.len() {
         let c = raw[p];
-        if c == COMMA {
+        if c == FIELD_END {
             return true;
         }
         if c == 34 {

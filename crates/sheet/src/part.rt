@@ -7,7 +7,8 @@ ghost use Rattle.sheet.specs.Code.Cell.{content_of};
 
 use midicsv::byte::is_blank;
 
-const SEMICOLON: u8 = 59;
+// The semicolon: where it separates, it begins no remark.
+const SEPARATING: u8 = 59;
 
 // The place after the byte at a place.
 pub fn after_byte(part: &[u8], at: usize, twice: bool) -> usize
@@ -69,7 +70,7 @@ pub fn is_remark_line(part: &[u8], sep: u8, twice: bool) -> bool
     if c != 59 {
         return false;
     }
-    if sep == SEMICOLON {
+    if sep == SEPARATING {
         return false;
     }
     true

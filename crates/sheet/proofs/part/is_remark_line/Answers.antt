@@ -14,12 +14,12 @@ returns-then-c-eq35 c = remark_hash _ _ _ _ c.skip_beside-p.ensures c.if-part-p.
 pub returns-then-c-ne59 : goal.returns-then-c-ne59
 returns-then-c-ne59 c = remark_not _ _ _ _ c.skip_beside-p.ensures c.if-part-p.false c.if-c-eq35.false c.if-c-ne59.true
 
-pub returns-then-sep-eq-SEMICOLON : goal.returns-then-sep-eq-SEMICOLON
-returns-then-sep-eq-SEMICOLON c =
-    let separates = eq-eqb c.args.sep 59 (omega (arith, c.if-sep-eq-SEMICOLON.true)) in
+pub returns-then-sep-eq-SEPARATING : goal.returns-then-sep-eq-SEPARATING
+returns-then-sep-eq-SEPARATING c =
+    let separates = eq-eqb c.args.sep 59 (omega (arith, c.if-sep-eq-SEPARATING.true)) in
     ap not (sym separates) ∙ remark_semicolon _ _ _ _ c.skip_beside-p.ensures c.if-part-p.false c.if-c-ne59.false
 
 pub returns : goal.returns
 returns c =
-    let other = ne_eqb c.args.sep 59 (λ e. omega (arith, c.if-sep-eq-SEMICOLON.false, e)) in
+    let other = ne_eqb c.args.sep 59 (λ e. omega (arith, c.if-sep-eq-SEPARATING.false, e)) in
     ap not (sym other) ∙ remark_semicolon _ _ _ _ c.skip_beside-p.ensures c.if-part-p.false c.if-c-ne59.false
