@@ -147,9 +147,10 @@ LOADER = PATH="$$PATH:/usr/sbin:/sbin"; if [ "$$INTO_LIB" = "$$PC_LIB" ] && ldco
 
 # Only here: another goal takes the library that was proved as it is, and needs no rt.
 ifneq ($(filter prove dist,$(MAKECMDGOALS)),)
-CRATES = $(shell sed -n 's/^noferkash:/noferkash/p' crates.txt)
-# The folders too, which tell of a file that went.
-SOURCES = $(shell find $(CRATES:%=crates/%) -name must-fail -prune -o -print)
+# noferkash_c, which gives C the library, and all that it stands on.
+CRATES = $(shell sed -n 's/^noferkash_c staticlib:/noferkash_c/p' crates.txt)
+# The folders too, which tell of a file that went. But for out/, which rt makes.
+SOURCES = $(shell find $(CRATES:%=crates/%) \( -name must-fail -o -name out \) -prune -o -print)
 
 $(PROVED): crates.txt $(SOURCES) target/toolchain
 	.ci/prove staticlib noferkash
