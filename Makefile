@@ -7,7 +7,8 @@
 #
 # make prove     proves the library from its sources, compares it with dist/, and builds from it what
 #                make builds. What is proved and unchanged is not proved again. Needs rt
-# make test      the gate: every proof from nothing, then every test. Needs rt
+# make test      the gate: every proof and must-fail edit that no earlier run on this machine did, then every
+#                test. Needs rt
 # make dist      proves, and renews dist/ with the library proved. Needs rt
 #
 # make bench     one table of times on a file of about 1 MiB: each operation beside the second program and,
