@@ -7,7 +7,8 @@
 #
 # make prove     proves the library from its sources, compares it with dist/, and builds from it what
 #                make builds. What is proved and unchanged is not proved again. Needs rt
-# make test      the gate: every proof from nothing, then every test. Needs rt
+# make test      the gate: every proof and must-fail edit that no earlier run on this machine did, then every
+#                test. Needs rt
 # make dist      proves, and renews dist/ with the library proved. Needs rt
 #
 # make bench     one table of times on a file of about 1 MiB: each operation beside the second program and,
@@ -147,9 +148,10 @@ LOADER = PATH="$$PATH:/usr/sbin:/sbin"; if [ "$$INTO_LIB" = "$$PC_LIB" ] && ldco
 
 # Only here: another goal takes the library that was proved as it is, and needs no rt.
 ifneq ($(filter prove dist,$(MAKECMDGOALS)),)
-CRATES = $(shell sed -n 's/^noferkash:/noferkash/p' crates.txt)
-# The folders too, which tell of a file that went.
-SOURCES = $(shell find $(CRATES:%=crates/%) -name must-fail -prune -o -print)
+# noferkash_c, which gives C the library, and all that it stands on.
+CRATES = $(shell sed -n 's/^noferkash_c staticlib:/noferkash_c/p' crates.txt)
+# The folders too, which tell of a file that went. But for out/, which rt makes.
+SOURCES = $(shell find $(CRATES:%=crates/%) \( -name must-fail -o -name out \) -prune -o -print)
 
 $(PROVED): crates.txt $(SOURCES) target/toolchain
 	.ci/prove staticlib noferkash

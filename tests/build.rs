@@ -15,7 +15,7 @@ fn main() {
         .unwrap_or_else(|_| panic!("set {FOLDER} to the folder that has libnoferkash.a"));
     let archive = Path::new(&folder).join("libnoferkash.a");
     let archive = archive.canonicalize().unwrap_or_else(|error| {
-        panic!("{}: {error} (rt staticlib noferkash makes it)", archive.display())
+        panic!("{}: {error} (.ci/prove staticlib noferkash makes it)", archive.display())
     });
     let folder = archive.parent().expect("a file stands in a folder");
     println!("cargo:rerun-if-changed={}", archive.display());

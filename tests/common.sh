@@ -31,7 +31,7 @@ begin() {
         fi
     done
     if [ ! -f "$archive" ]; then
-        echo "$script: $archive is missing (rt staticlib noferkash)" >&2
+        echo "$script: $archive is missing (.ci/prove staticlib noferkash makes it)" >&2
         missing=1
     fi
     [ "$missing" = 0 ] || exit 2
