@@ -40,8 +40,9 @@ pub fn merge(
     let mut force: u8 = 0;
     let mut i = least(times, statuses, count);
     let sorts = event::sort::SORTS;
-    loop {
-        if count <= i {
+    'turn: loop {
+        let none_left = count <= i;
+        if none_left {
             let t = greatest_time(times, count);
             let end = put_event(
                 out,

@@ -82,7 +82,8 @@ fn walk_track(body: &[u8], base: usize) -> WalkStep
                 events += 1;
                 padding += above;
                 if event::read::is_end(kind) {
-                    if next < body.len() {
+                    let more = next < body.len();
+                    if more {
                         let place = base + next;
                         return WalkStep::Fault { number: 12, place };
                     }

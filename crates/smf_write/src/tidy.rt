@@ -174,7 +174,8 @@ pub fn tidy(file: &[u8], out: &mut [u8]) -> Answer
     if FILE_LIMIT < need {
         return Answer::refusal(29, 0);
     }
-    if out.len() < need {
+    let too_small = out.len() < need;
+    if too_small {
         return Answer::room_needed(need);
     }
     put_file(out, file, true);

@@ -28,9 +28,9 @@ pub least-i-requires : goal.least-i-requires
 unfolding manner_of
 least-i-requires c = record { fact_1 = omega (arith, c.start_rows.auto.times, c.requires.fact_4.1); fact_2 = omega (arith, c.start_rows.auto.statuses, c.requires.fact_4.2) }
 
-pub loop-i-init : goal.loop-i-init
+pub turn-init : goal.turn-init
 unfolding manner_of
-loop-i-init c = let a = c.args in let bytes = bytes_of a.file.now (λ k. omega (arith, c.type_inv.file k)) in (
+turn-init c = let a = c.args in let bytes = bytes_of a.file.now (λ k. omega (arith, c.type_inv.file k)) in (
   refl,
   refl,
   refl,
@@ -41,7 +41,7 @@ loop-i-init c = let a = c.args in let bytes = bytes_of a.file.now (λ k. omega (
 
 pub greatest_time-t-requires : goal.greatest_time-t-requires
 unfolding manner_of
-greatest_time-t-requires c = let l = c.loop-i in omega (arith, l.invariant.2, c.start_rows.auto.times, c.requires.fact_4.1)
+greatest_time-t-requires c = let l = c.turn in omega (arith, l.invariant.2, c.start_rows.auto.times, c.requires.fact_4.1)
 
 pub step-requires : goal.step-requires
 unfolding manner_of
@@ -49,18 +49,18 @@ step-requires c = search rules
 
 pub put_event-end-requires : goal.put_event-end-requires
 unfolding manner_of
-put_event-end-requires c = let a = c.args in let g = c.loop-i.invariant.4 in
+put_event-end-requires c = let a = c.args in let g = c.turn.invariant.4 in
     let bytes = bytes_of a.file.now (λ k. omega (arith, c.type_inv.file k)) in
     record { fact_1 = omega (arith, g.remains.place, whole_small a.file.now a.count a.first bytes c.requires.fact_3, length-drop a.first a.file.now, c.requires.fact_1, c.requires.fact_2); fact_2 = omega (arith, c.requires.fact_2) }
 
 pub clear-requires : goal.clear-requires
 unfolding manner_of
-clear-requires c = let l = c.loop-i in omega (arith, l.invariant.3, c.start_rows.auto.statuses, c.requires.fact_4.2)
+clear-requires c = let l = c.turn in omega (arith, l.invariant.3, c.start_rows.auto.statuses, c.requires.fact_4.2)
 
-pub returns-then-count-i : goal.returns-then-count-i
+pub returns-then-none_left : goal.returns-then-none_left
 unfolding manner_of
-returns-then-count-i c = let a = c.args in let l = c.loop-i in let f = a.file.now in let g = l.invariant.4 in
-    let none = c.if-count-i.true in
+returns-then-none_left c = let a = c.args in let l = c.turn in let f = a.file.now in let g = l.invariant.4 in
+    let none = c.if-none_left.true in
     let best = l.invariant.5 in
     let ht : a.count ≤ length l.times = omega (arith, l.invariant.2, c.start_rows.auto.times, c.requires.fact_4.1) in
     let hp : a.count ≤ length l.places = omega (arith, l.invariant.1, c.start_rows.auto.places, c.requires.fact_4.0) in
@@ -73,7 +73,7 @@ offset_bounds-places-i c = search rules
 
 pub bounds-places-i : goal.bounds-places-i
 unfolding manner_of
-bounds-places-i c = let l = c.loop-i in omega (arith, l.invariant.1, c.start_rows.auto.places, c.requires.fact_4.0, c.if-count-i.false)
+bounds-places-i c = let l = c.turn in omega (arith, l.invariant.1, c.start_rows.auto.places, c.requires.fact_4.0, c.if-none_left.false)
 
 pub offset_bounds-times-i : goal.offset_bounds-times-i
 unfolding manner_of
@@ -81,11 +81,11 @@ offset_bounds-times-i c = search rules
 
 pub bounds-times-i : goal.bounds-times-i
 unfolding manner_of
-bounds-times-i c = let l = c.loop-i in omega (arith, l.invariant.2, c.start_rows.auto.times, c.requires.fact_4.1, c.if-count-i.false)
+bounds-times-i c = let l = c.turn in omega (arith, l.invariant.2, c.start_rows.auto.times, c.requires.fact_4.1, c.if-none_left.false)
 
 pub bounds-statuses-i : goal.bounds-statuses-i
 unfolding manner_of
-bounds-statuses-i c = let l = c.loop-i in omega (arith, l.invariant.3, c.start_rows.auto.statuses, c.requires.fact_4.2, c.if-count-i.false)
+bounds-statuses-i c = let l = c.turn in omega (arith, l.invariant.3, c.start_rows.auto.statuses, c.requires.fact_4.2, c.if-none_left.false)
 
 pub read_event_by-requires : goal.read_event_by-requires
 unfolding manner_of sort_table
@@ -93,9 +93,9 @@ read_event_by-requires c = refl
 
 pub returns-in-Stop : goal.returns-in-Stop
 unfolding manner_of
-returns-in-Stop c = let l = c.loop-i in
+returns-in-Stop c = let l = c.turn in
     let bytes = bytes_of c.args.file.now (λ k. omega (arith, c.type_inv.file k)) in
-    absurd (not_stopped bytes l.invariant.4 l.i c.if-count-i.false l.invariant.5 c.read_event_by.ensures c.in-Stop.is)
+    absurd (not_stopped bytes l.invariant.4 l.i c.if-none_left.false l.invariant.5 c.read_event_by.ensures c.in-Stop.is)
 
 pub step-requires-in-Read : goal.step-requires-in-Read
 unfolding manner_of
@@ -103,7 +103,7 @@ step-requires-in-Read c = search rules
 
 pub put_event-next-requires : goal.put_event-next-requires
 unfolding manner_of
-put_event-next-requires c = let a = c.args in let g = c.loop-i.invariant.4 in
+put_event-next-requires c = let a = c.args in let g = c.turn.invariant.4 in
     let bytes = bytes_of a.file.now (λ k. omega (arith, c.type_inv.file k)) in
     record { fact_1 = omega (arith, g.remains.place, whole_small a.file.now a.count a.first bytes c.requires.fact_3, length-drop a.first a.file.now, c.requires.fact_1, c.requires.fact_2); fact_2 = omega (arith, c.requires.fact_2) }
 
@@ -117,38 +117,38 @@ row_of-row-requires c = search rules
 
 pub offset_bounds-places-i-in-Read : goal.offset_bounds-places-i-in-Read
 unfolding manner_of
-offset_bounds-places-i-in-Read c = omega (arith, c.requires.fact_4.0, c.if-count-i.false, c.well_formed.1.0.1)
+offset_bounds-places-i-in-Read c = omega (arith, c.requires.fact_4.0, c.if-none_left.false, c.well_formed.1.0.1)
 
 pub bounds-places-i-in-Read : goal.bounds-places-i-in-Read
 unfolding manner_of
-bounds-places-i-in-Read c = let l = c.loop-i in omega (arith, l.invariant.1, c.start_rows.auto.places, c.requires.fact_4.0, c.if-count-i.false)
+bounds-places-i-in-Read c = let l = c.turn in omega (arith, l.invariant.1, c.start_rows.auto.places, c.requires.fact_4.0, c.if-none_left.false)
 
 pub offset_bounds-times-i-in-Read : goal.offset_bounds-times-i-in-Read
 unfolding manner_of
-offset_bounds-times-i-in-Read c = omega (arith, c.requires.fact_4.1, c.if-count-i.false, c.well_formed.1.1.0.1)
+offset_bounds-times-i-in-Read c = omega (arith, c.requires.fact_4.1, c.if-none_left.false, c.well_formed.1.1.0.1)
 
 pub bounds-times-i-in-Read : goal.bounds-times-i-in-Read
 unfolding manner_of
-bounds-times-i-in-Read c = let l = c.loop-i in omega (arith, l.invariant.2, c.start_rows.auto.times, c.requires.fact_4.1, c.if-count-i.false)
+bounds-times-i-in-Read c = let l = c.turn in omega (arith, l.invariant.2, c.start_rows.auto.times, c.requires.fact_4.1, c.if-none_left.false)
 
 pub bounds-statuses-i-in-Read : goal.bounds-statuses-i-in-Read
 unfolding manner_of
-bounds-statuses-i-in-Read c = let l = c.loop-i in omega (arith, l.invariant.3, c.start_rows.auto.statuses, c.requires.fact_4.2, c.if-count-i.false)
+bounds-statuses-i-in-Read c = let l = c.turn in omega (arith, l.invariant.3, c.start_rows.auto.statuses, c.requires.fact_4.2, c.if-none_left.false)
 
 pub least_after-i-requires : goal.least_after-i-requires
 unfolding manner_of
-least_after-i-requires c = let l = c.loop-i in let r = c.row_of-row.result in
-    record { fact_1 = omega (arith, length-set l.times l.i r.time, l.invariant.2, c.start_rows.auto.times, c.requires.fact_4.1); fact_2 = omega (arith, length-set l.statuses l.i r.status, l.invariant.3, c.start_rows.auto.statuses, c.requires.fact_4.2); fact_3 = c.if-count-i.false }
+least_after-i-requires c = let l = c.turn in let r = c.row_of-row.result in
+    record { fact_1 = omega (arith, length-set l.times l.i r.time, l.invariant.2, c.start_rows.auto.times, c.requires.fact_4.1); fact_2 = omega (arith, length-set l.statuses l.i r.status, l.invariant.3, c.start_rows.auto.statuses, c.requires.fact_4.2); fact_3 = c.if-none_left.false }
 
-pub loop-i-smaller : goal.loop-i-smaller
+pub turn-smaller : goal.turn-smaller
 unfolding manner_of
-loop-i-smaller c = let l = c.loop-i in let h = c.if-count-i.false in let bytes = bytes_of c.args.file.now (λ k. omega (arith, c.type_inv.file k)) in
+turn-smaller c = let l = c.turn in let h = c.if-none_left.false in let bytes = bytes_of c.args.file.now (λ k. omega (arith, c.type_inv.file k)) in
     let w = taken_here bytes l.invariant.4 l.i h l.invariant.5 c.read_event_by.ensures c.in-Read.is in
     omega (arith, going_more bytes l.invariant.4 l.i h l.invariant.5 c.in-Read.kind c.in-Read.n c.in-Read.s w _ c.put_event-next.new.out c.put_event-next.result (ap (λ (x : Delta). x.0) c.step-in-Read.ensures) c.put_event-next.ensures)
 
-pub loop-i-preserved : goal.loop-i-preserved
+pub turn-preserved : goal.turn-preserved
 unfolding manner_of
-loop-i-preserved c = let l = c.loop-i in let h = c.if-count-i.false in let r = c.row_of-row.result in
+turn-preserved c = let l = c.turn in let h = c.if-none_left.false in let r = c.row_of-row.result in
     let k = c.start_rows.auto in
     let bytes = bytes_of c.args.file.now (λ k. omega (arith, c.type_inv.file k)) in
     let w = taken_here bytes l.invariant.4 l.i h l.invariant.5 c.read_event_by.ensures c.in-Read.is in

@@ -42,19 +42,19 @@ overflow_add-padding c = let a = c.args in
     let x = event_padding_lem a.body.now l.at l.prev.0 l.status c.read_event_by.ensures c.in-Read.is in
     omega (arith, e.later, e.inside, padding_taken bytes e _ x, l.invariant.4)
 
-pub overflow_add-place-then-next-body : goal.overflow_add-place-then-next-body
-overflow_add-place-then-next-body c = let a = c.args in
+pub overflow_add-place-then-more : goal.overflow_add-place-then-more
+overflow_add-place-then-more c = let a = c.args in
     let l = c.loop-number in
     let bytes = bytes_of a.body.now (λ i. omega (arith, c.type_inv.body i)) in
     let e = event_came a.body.now l.at l.prev.0 l.status bytes l.invariant.0 c.read_event_by.ensures c.in-Read.is in
     omega (arith, e.later, e.inside)
 
-pub returns-then-next-body : goal.returns-then-next-body
-returns-then-next-body c = let a = c.args in
+pub returns-then-more : goal.returns-then-more
+returns-then-more c = let a = c.args in
     let l = c.loop-number in
     let bytes = bytes_of a.body.now (λ i. omega (arith, c.type_inv.body i)) in
     let e = event_came a.body.now l.at l.prev.0 l.status bytes l.invariant.0 c.read_event_by.ensures c.in-Read.is in
-    sym (l.invariant.2 ∙ turn_more _ a.base l.events bytes e (sym c.is_end.ensures ∙ c.if-is_end.true) c.if-next-body.true)
+    sym (l.invariant.2 ∙ turn_more _ a.base l.events bytes e (sym c.is_end.ensures ∙ c.if-is_end.true) c.if-more.true)
 
 pub returns-then-is_end : goal.returns-then-is_end
 returns-then-is_end c = let a = c.args in
@@ -63,7 +63,7 @@ returns-then-is_end c = let a = c.args in
     let e = event_came a.body.now l.at l.prev.0 l.status bytes l.invariant.0 c.read_event_by.ensures c.in-Read.is in
     let last = sym c.is_end.ensures ∙ c.if-is_end.true in
     let x = event_padding_lem a.body.now l.at l.prev.0 l.status c.read_event_by.ensures c.in-Read.is in
-    c.whole.ensures ∙ ap (Whole c.in-Read.time (l.events + 1)) (omega (arith, padding_end bytes e _ x l.padding _ last l.invariant.3)) ∙ sym (l.invariant.2 ∙ turn_end _ a.base l.events bytes e last c.if-next-body.false)
+    c.whole.ensures ∙ ap (Whole c.in-Read.time (l.events + 1)) (omega (arith, padding_end bytes e _ x l.padding _ last l.invariant.3)) ∙ sym (l.invariant.2 ∙ turn_end _ a.base l.events bytes e last c.if-more.false)
 
 pub loop-number-smaller : goal.loop-number-smaller
 loop-number-smaller c = let a = c.args in

@@ -40,9 +40,9 @@ returns-then-need-gt-FILE_LIMIT c = let s = c.args.file.now in
     let long = tidied s there old (write_long _ old n size c.if-need-gt-FILE_LIMIT.true) in
     record { fact_1 = c.refusal.ensures ∙ long.0; fact_2 = unmeasured old m ∙ long.1 }
 
-pub returns-then-out-need : goal.returns-then-out-need
+pub returns-then-too_small : goal.returns-then-too_small
 unfolding manner_of
-returns-then-out-need c = let s = c.args.file.now in
+returns-then-too_small c = let s = c.args.file.now in
     let old = c.args.out.now in
     let v = c.check-verdict.result in
     let judged = c.check-verdict.ensures.fact_1 in
@@ -52,7 +52,7 @@ returns-then-out-need c = let s = c.args.file.now in
     let n = c.put_file-need.result in
     let size = measured m in
     let kept = ap length (unmeasured old m) in
-    let room = tidied s there old (write_room _ old n size c.if-need-gt-FILE_LIMIT.false (omega (arith, kept, c.if-out-need.true))) in
+    let room = tidied s there old (write_room _ old n size c.if-need-gt-FILE_LIMIT.false (omega (arith, kept, c.if-too_small.true))) in
     record { fact_1 = c.room_needed.ensures ∙ room.0; fact_2 = unmeasured old m ∙ room.1 }
 
 pub put_file-requires : goal.put_file-requires
@@ -76,5 +76,5 @@ returns c = let s = c.args.file.now in
     let n = c.put_file-need.result in
     let size = measured m in
     let kept = ap length (unmeasured old m) in
-    let fine = tidied s there old (write_fine _ old n size c.if-need-gt-FILE_LIMIT.false (omega (arith, kept, c.if-out-need.false))) in
+    let fine = tidied s there old (write_fine _ old n size c.if-need-gt-FILE_LIMIT.false (omega (arith, kept, c.if-too_small.false))) in
     record { fact_1 = c.success.ensures ∙ fine.0; fact_2 = (after_measure m c.put_file.ensures).contents ∙ fine.1 }
