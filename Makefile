@@ -9,6 +9,7 @@
 #                make builds. What is proved and unchanged is not proved again. Needs rt
 # make test      the gate: every proof and must-fail edit that no earlier run on this machine did, then every
 #                test. Needs rt
+#                It wants a clone where make has not built yet: rt ci refuses links, and target/ has one
 # make dist      proves, and renews dist/ with the library proved. Needs rt
 #
 # make bench     one table of times on a file of about 1 MiB: each operation beside the second program and,
