@@ -15,3 +15,4 @@ pub mod PaddingCases
 pub mod Readings
 pub mod Dates
 pub mod Step
+pub mod Refusal

@@ -4,6 +4,7 @@
 ghost use Rattle.std.specs.Prelude.{◌≡◌};
 ghost use Rattle.event.specs.Dates.{later_of, since_of};
 
+pub mod refusal; // refusal.rt: why a file, a text or a table is refused
 pub mod number; // number.rt: variable-length numbers, and bytes at a place
 pub mod sort; // sort.rt: the byte after the delta
 mod channel; // channel.rt: channel events
