@@ -1,5 +1,5 @@
 -- Bytes, numbers of a fixed count of bytes, and runs of bytes: what is laid out is read back, and what is read was laid out.
-use mathlib.Core.Path.{◌≡◌, sym, ap, ap₂, subst, ◌∙◌}
+use mathlib.Core.Path.{◌≡◌, refl, sym, ap, ap₂, subst, ◌∙◌}
 use Prim.Native.Nat.{ℕ, zero, suc, ◌+◌, ◌-◌, ◌*◌, ◌/◌, ◌%◌, ◌<◌, ◌≤◌}
 use mathlib.Core.List.{List, [], ◌∷◌, ◌++◌, append-nil}
 use native.Mathlib.Omega.{arith}
@@ -9,6 +9,7 @@ use borrow.Author.Tests.{leb-true, le-leb, lt-leb}
 use Rattle.event.specs.Bytes.{Bytes, below, bytes_onto, big_endian, horner, number}
 use Rattle.event.specs.Outcome.{ok, refused, and_then, check}
 use Rattle.event.specs.Reader.{read_data, read_number}
+use Rattle.event.specs.Step.{bytes_from}
 use Rattle.event.proofs.OutcomeLaws.{and_then_ok, and_then_eq, check_ok, check_eq, ok_same}
 
 -- ---- lists of bytes
@@ -31,6 +32,26 @@ length_onto (suc k) n l = length_onto k (n / 256) (n % 256 ∷ l) ∙ omega arit
 pub length_big_endian : (k n : ℕ) → length (big_endian k n) ≡ k
 unfolding big_endian
 length_big_endian k n = length_onto k n [] ∙ omega arith
+
+-- one byte more of a list
+horner_more : (k a i : ℕ) (l : List ℕ) → horner a (bytes_from (suc k) l i) ≡ horner a (bytes_from k l i) * 256 + get_or l (k + i) 0
+unfolding horner
+horner_more zero a i l = let e : zero + i ≡ i = omega arith in rw e refl
+horner_more (suc k) a i l = let e : suc k + i ≡ k + suc i = omega arith in rw e (horner_more k (a * 256 + get_or l i 0) (suc i) l)
+
+pub number_more : (k : ℕ) (l : List ℕ) → number (bytes_from (k + 1) l 0) ≡ number (bytes_from k l 0) * 256 + get_or l k 0
+unfolding number
+number_more k l = let e : k + 0 ≡ k = omega arith in let f : k + 1 ≡ suc k = omega arith in rw f (rw e at (horner_more k 0 0 l))
+
+pub below_more : (k : ℕ) → below (k + 1) ≡ 256 * below k
+below_more k = let f : k + 1 ≡ suc k = omega arith in rw f refl
+
+pub below_four : (k : ℕ) → k < 4 → below k ≤ 16777216
+below_four zero h = omega arith
+below_four (suc zero) h = omega arith
+below_four (suc (suc zero)) h = omega arith
+below_four (suc (suc (suc zero))) h = omega arith
+below_four (suc (suc (suc (suc k)))) h = omega arith
 
 horner_onto : (k n : ℕ) (l : List ℕ) → n < below k → horner 0 (bytes_onto k n l) ≡ horner n l
 unfolding bytes_onto horner

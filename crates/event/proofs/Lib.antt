@@ -10,6 +10,7 @@ pub mod KindLaws
 pub mod EventLaws
 pub mod Readings
 pub mod RefusalLaws
+pub mod PassedLaws
 pub mod PlaceLaws
 pub mod LoopLaws
 pub mod RowLaws

@@ -24,9 +24,8 @@ use Rattle.event.proofs.ChoiceLaws.{by_test}
 use native.Mathlib.Numerals.{add-one}
 use lib.Seq.{drop-cons}
 use Rattle.event.specs.Step.{frame_at, frame_step, padded}
-use Rattle.event.specs.declared.EventKind.{EventKind}
-use Rattle.event.specs.declared.FrameStep.{FrameStep}
-use Rattle.event.specs.declared.FrameStep.TheVariants.{Found, Refused}
+use Rattle.event.specs.declared.FrameRead.{FrameRead}
+use Rattle.std.specs.Prelude.{Result, Ok, Err}
 use Rattle.event.proofs.FrameLaws.{Valid}
 use Rattle.event.proofs.KindLaws.{frame_valid}
 use Rattle.event.proofs.EventLaws.{event_sound}
@@ -213,10 +212,10 @@ frame_small (b ∷ l) bs =
     (pick_small (eqb b 0xff) (meta_padding l) _ (meta_small l bs.1) (pick_small (eqb b 0xf0 || eqb b 0xf7) (vlq_padding l) 0 (vlq_small l bs.1) (omega arith)))
 
 -- the count that a frame was given
-pub frame_padding_lem : {e : EventKind} {p st z : ℕ} (y : ℕ) (m : FrameStep) → padded y m ≡ Found e p st z → y ≡ z
+pub frame_padding_lem : {f : FrameRead} (y : ℕ) (m : Result FrameRead ℕ) → padded y m ≡ Ok f → y ≡ f.padding
 unfolding padded
-frame_padding_lem y (Found a b c d) e = cc
-frame_padding_lem y (Refused k) e = let w : ◌≡◌ {A = ℕ} 0 1 = cc in absurd (omega arith)
+frame_padding_lem {f} y (Ok g) e = let same : record { kind = g.kind; next = g.next; status = g.status; padding = y } ≡ f = cc in ap (λ z. z.padding) same
+frame_padding_lem y (Err k) e = let w : ◌≡◌ {A = ℕ} 0 1 = cc in absurd (omega arith)
 
 -- so the sum of both fits
 pub sum_small : (x y : ℕ) (l m : List ℕ) → Bytes l → Bytes m → vlq_padding l ≡ x → frame_padding m ≡ y → x + y ≤ 6

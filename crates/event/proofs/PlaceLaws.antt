@@ -5,15 +5,16 @@ use mathlib.Core.Bool.{Bool, true, false}
 use mathlib.Core.List.{List, [], ◌∷◌, ◌++◌, append_assoc}
 use native.Mathlib.Omega.{arith}
 use lib.ListN.{length, take, drop, get_or, length-drop, length-append, drop_of_length-le, take-append-drop}
-use lib.Seq.{drop-cons, drop_at}
+use lib.Seq.{drop-cons, drop_at, drop-drop}
 use lib.Dec.{leb, ltb}
 use borrow.Author.Tests.{le-leb, lt-leb}
 use Rattle.event.specs.Choice.{pick}
+use Rattle.event.proofs.ChoiceLaws.{by_test}
 use Rattle.event.specs.Outcome.{Outcome, ok, refused, check}
 use Rattle.event.specs.Reader.{read_more, read_vlq, data_byte}
 use Rattle.event.specs.Step.{number_step, byte_step}
-use Rattle.event.specs.declared.NumberStep.TheVariants.{Value, Unread}
-use Rattle.event.specs.declared.ByteStep.TheVariants.{Byte, Bad}
+use Rattle.event.specs.declared.NumberRead.{NumberRead}
+use Rattle.std.specs.Prelude.{Ok, Err}
 
 -- an accepted outcome leaves an end of l
 abbrev pub Left : {A : Type 0} → List ℕ → Outcome A → Type 0
@@ -65,49 +66,62 @@ found_at s at v p w r h vw pp =
     let back : drop (length s - length r) s ≡ r = place s h.0 r at h.1 in
     (cc, omega arith)
 
-number_found : {y : ℕ} (x : ℕ) (s : List ℕ) (at v p : ℕ) (m : Outcome ℕ) → Left (drop at s) m → number_step (length s) x m ≡ Value v p y → (m ≡ ok v (drop p s)) × (p ≤ length s)
+number_found : (x : ℕ) (s : List ℕ) (at : ℕ) (f : NumberRead) (m : Outcome ℕ) → Left (drop at s) m → number_step (length s) x m ≡ Ok f → (m ≡ ok f.value (drop f.next s)) × (f.next ≤ length s)
 unfolding number_step
-number_found x s at v p (ok w r) h e = found_at s at v p w r h (cc) (cc)
-number_found x s at v p (refused k z) h e = let w : ◌≡◌ {A = ℕ} 0 1 = cc in absurd (omega arith)
+number_found x s at f (ok w r) h e =
+    let same : record { value = w; next = length s - length r; padding = x } ≡ f = cc in
+    found_at s at f.value f.next w r h (ap (λ z. z.value) same) (ap (λ z. z.next) same)
+number_found x s at f (refused k z) h e = let w : ◌≡◌ {A = ℕ} 0 1 = cc in absurd (omega arith)
 
-pub number_came : {y : ℕ} (x : ℕ) (s : List ℕ) (at v p : ℕ) → number_step (length s) x (read_vlq (drop at s)) ≡ Value v p y → (read_vlq (drop at s) ≡ ok v (drop p s)) × (p ≤ length s)
-number_came x s at v p e = number_found x s at v p (read_vlq (drop at s)) (vlq_left (drop at s)) e
+pub number_came : (x : ℕ) (s : List ℕ) (at : ℕ) (f : NumberRead) → number_step (length s) x (read_vlq (drop at s)) ≡ Ok f → (read_vlq (drop at s) ≡ ok f.value (drop f.next s)) × (f.next ≤ length s)
+number_came x s at f e = number_found x s at f (read_vlq (drop at s)) (vlq_left (drop at s)) e
 
 -- and the count beside it is the one that was asked for
-pub number_told : {y v p : ℕ} (x n : ℕ) (m : Outcome ℕ) → number_step n x m ≡ Value v p y → x ≡ y
+pub number_told : {f : NumberRead} (x n : ℕ) (m : Outcome ℕ) → number_step n x m ≡ Ok f → x ≡ f.padding
 unfolding number_step
-number_told x n (ok w r) e = cc
+number_told {f} x n (ok w r) e = let same : record { value = w; next = n - length r; padding = x } ≡ f = cc in ap (λ z. z.padding) same
 number_told x n (refused k z) e = let w : ◌≡◌ {A = ℕ} 0 1 = cc in absurd (omega arith)
 
-pub number_bad : (x n k : ℕ) (m : Outcome ℕ) → number_step n x m ≡ Unread k → (z : ℕ) × (m ≡ refused k z)
+pub number_bad : (x n k : ℕ) (m : Outcome ℕ) → number_step n x m ≡ Err k → (z : ℕ) × (m ≡ refused k z)
 unfolding number_step
 number_bad x n k (ok v r) e = let w : ◌≡◌ {A = ℕ} 0 1 = cc in absurd (omega arith)
 number_bad x n k (refused j z) e = (z, cc)
 
-byte_found : (s : List ℕ) (at v p : ℕ) (m : Outcome ℕ) → Left (drop at s) m → byte_step (length s) m ≡ Byte v p → (m ≡ ok v (drop p s)) × (p ≤ length s)
-unfolding byte_step
-byte_found s at v p (ok w r) h e = found_at s at v p w r h (cc) (cc)
-byte_found s at v p (refused k z) h e = let w : ◌≡◌ {A = ℕ} 0 1 = cc in absurd (omega arith)
+-- the byte that came is the one at the place, and the rest begins one on
+byte_tail : (l : List ℕ) (w : ℕ) (r : List ℕ) → data_byte l ≡ ok w r → (r ≡ drop 1 l) × (0 < length l)
+unfolding data_byte check
+byte_tail [] w r e = let z : ◌≡◌ {A = ℕ} 0 1 = cc in absurd (omega arith)
+byte_tail (a ∷ l) w r e =
+    by_test (leb a 127) (λ q. let z : ok a l ≡ ok w r = rw q at e in (cc, omega arith))
+    (λ q. let z : ◌≡◌ {A = Outcome ℕ} (refused 9 0) (ok w r) = rw q at e in let y : ◌≡◌ {A = ℕ} 0 1 = cc in absurd (omega arith))
 
-pub byte_came : (s : List ℕ) (at v p : ℕ) → byte_step (length s) (data_byte (drop at s)) ≡ Byte v p → (data_byte (drop at s) ≡ ok v (drop p s)) × (p ≤ length s)
-byte_came s at v p e = byte_found s at v p (data_byte (drop at s)) (byte_left (drop at s)) e
+byte_rest : (s : List ℕ) (at w : ℕ) (r : List ℕ) → data_byte (drop at s) ≡ ok w r → (r ≡ drop (at + 1) s) × (at < length s)
+byte_rest s at w r e =
+    let (same, more) = byte_tail (drop at s) w r e in
+    (same ∙ drop-drop 1 at s, omega (arith, more, length-drop at s))
 
-pub byte_bad : (n k : ℕ) (m : Outcome ℕ) → byte_step n m ≡ Bad k → (z : ℕ) × (m ≡ refused k z)
+byte_found : (s : List ℕ) (at v : ℕ) (m : Outcome ℕ) → data_byte (drop at s) ≡ m → byte_step m ≡ Ok v → (m ≡ ok v (drop (at + 1) s)) × (at < length s)
 unfolding byte_step
-byte_bad n k (ok v r) e = let w : ◌≡◌ {A = ℕ} 0 1 = cc in absurd (omega arith)
-byte_bad n k (refused j z) e = (z, cc)
+byte_found s at v (ok w r) m e = let same : w ≡ v = cc in let (rest, h) = byte_rest s at w r m in (rw (same, rest) refl, h)
+byte_found s at v (refused k z) m e = let w : ◌≡◌ {A = ℕ} 0 1 = cc in absurd (omega arith)
+
+pub byte_came : (s : List ℕ) (at v : ℕ) → byte_step (data_byte (drop at s)) ≡ Ok v → (data_byte (drop at s) ≡ ok v (drop (at + 1) s)) × (at < length s)
+byte_came s at v e = byte_found s at v (data_byte (drop at s)) refl e
+
+pub byte_bad : (k : ℕ) (m : Outcome ℕ) → byte_step m ≡ Err k → (z : ℕ) × (m ≡ refused k z)
+unfolding byte_step
+byte_bad k (ok v r) e = let w : ◌≡◌ {A = ℕ} 0 1 = cc in absurd (omega arith)
+byte_bad k (refused j z) e = (z, cc)
 
 -- the cases of a data byte
-pub byte_none : (s : List ℕ) (at : ℕ) → length s ≤ at → byte_step (length s) (data_byte (drop at s)) ≡ Bad 6
+pub byte_none : (s : List ℕ) (at : ℕ) → length s ≤ at → byte_step (data_byte (drop at s)) ≡ Err 6
 unfolding byte_step data_byte
 byte_none s at h = rw (drop_of_length-le s h)
 
-pub byte_low : (s : List ℕ) (at : ℕ) → at < length s → get_or s at 0 < 128 → byte_step (length s) (data_byte (drop at s)) ≡ Byte (get_or s at 0) (at + 1)
+pub byte_low : (s : List ℕ) (at : ℕ) → at < length s → get_or s at 0 < 128 → byte_step (data_byte (drop at s)) ≡ Ok (get_or s at 0)
 unfolding byte_step data_byte check
-byte_low s at h k =
-    let place : length s - length (drop (suc at) s) ≡ at + 1 = simp length-drop (omega arith) in
-    rw (drop-cons s at 0 h, le-leb (get_or s at 0) 127 (omega arith), place)
+byte_low s at h k = rw (drop-cons s at 0 h, le-leb (get_or s at 0) 127 (omega arith))
 
-pub byte_high : (s : List ℕ) (at : ℕ) → at < length s → 128 ≤ get_or s at 0 → byte_step (length s) (data_byte (drop at s)) ≡ Bad 9
+pub byte_high : (s : List ℕ) (at : ℕ) → at < length s → 128 ≤ get_or s at 0 → byte_step (data_byte (drop at s)) ≡ Err 9
 unfolding byte_step data_byte check
 byte_high s at h k = rw (drop-cons s at 0 h, lt-leb (get_or s at 0) 127 k)

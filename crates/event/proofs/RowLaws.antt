@@ -13,10 +13,10 @@ use Rattle.event.specs.Meta.{MetaKind, sequence_kind, text_kind, prefix_kind, po
 use Rattle.event.specs.Frame.{exclusive, after, key_byte}
 use Rattle.event.specs.Outcome.{ok, and_then, check}
 use Rattle.event.specs.Reader.{read_vlq, read_exclusive, length_ok, value_ok, meta_data, key_of, meta_of, kind_in}
-use Rattle.event.specs.Step.{bytes_from, kind_at, frame_at, frame_step}
+use Rattle.event.specs.Step.{bytes_from, kind_at, frame_at, frame_step, silent}
 use Rattle.event.specs.declared.EventKind.TheVariants.{SystemExclusive, SystemExclusivePacket, SequenceNumber, Text, ChannelPrefix, MidiPort, EndTrack, Tempo, SmpteOffset, TimeSignature, KeySignature, SequencerSpecific, UnknownMeta}
-use Rattle.event.specs.declared.FrameStep.{FrameStep}
-use Rattle.event.specs.declared.FrameStep.TheVariants.{Found, Refused}
+use Rattle.event.specs.declared.FrameRead.{FrameRead}
+use Rattle.std.specs.Prelude.{Result, Ok, Err}
 use Rattle.event.proofs.BytesLaws.{data_at_lem, data_short, size_at}
 use Rattle.event.proofs.MetaLaws.{KindIs, is_sequence, is_text_case, is_prefix, is_port, is_end_case, is_tempo, is_offset, is_time, is_key, is_specific, is_unknown, kind_is, text_kind_lem}
 use Rattle.event.proofs.PlaceLaws.{place_back}
@@ -24,21 +24,21 @@ use Rattle.event.proofs.PlaceLaws.{place_back}
 -- ---- system exclusive events, their length n read and their data from the place p on
 
 module _ (s : List ℕ) (status at n p : ℕ) (came : read_vlq (drop at s) ≡ ok n (drop p s)) where
-  pub exclusive_short : length s - p < n → Refused 6 ≡ frame_step (length s) (read_exclusive status (drop at s))
+  pub exclusive_short : length s - p < n → Err 6 ≡ frame_step (length s) (read_exclusive status (drop at s))
   unfolding read_exclusive and_then frame_step
   exclusive_short h = simp (came, data_short s p n h)
 
-  exclusive_at : p + n ≤ length s → frame_step (length s) (read_exclusive status (drop at s)) ≡ frame_at (p + n) (exclusive status (take n (drop p s)))
+  exclusive_at : p + n ≤ length s → frame_step (length s) (read_exclusive status (drop at s)) ≡ Ok (frame_at (p + n) (exclusive status (take n (drop p s))))
   unfolding read_exclusive and_then frame_step
   exclusive_at h = simp (came, data_at_lem s p n h, place_back s (p + n) h)
 
-  pub exclusive_first : p + n ≤ length s → status ≡ 240 → Found (SystemExclusive p n) (p + n) 0 0 ≡ frame_step (length s) (read_exclusive status (drop at s))
+  pub exclusive_first : p + n ≤ length s → status ≡ 240 → Ok (silent (SystemExclusive p n) (p + n)) ≡ frame_step (length s) (read_exclusive status (drop at s))
   unfolding frame_at kind_at kind_in after pick
   exclusive_first h e =
       let back : p + n - n ≡ p = omega arith in
       rw (exclusive_at h) (simp (e, size_at s p n h, back))
 
-  pub exclusive_other : p + n ≤ length s → (status ≡ 240 → ⊥) → Found (SystemExclusivePacket p n) (p + n) 0 0 ≡ frame_step (length s) (read_exclusive status (drop at s))
+  pub exclusive_other : p + n ≤ length s → (status ≡ 240 → ⊥) → Ok (silent (SystemExclusivePacket p n) (p + n)) ≡ frame_step (length s) (read_exclusive status (drop at s))
   unfolding frame_at kind_at kind_in after pick
   exclusive_other h e =
       let back : p + n - n ≡ p = omega arith in
@@ -47,11 +47,11 @@ module _ (s : List ℕ) (status at n p : ℕ) (came : read_vlq (drop at s) ≡ o
 -- ---- a row of the kind k with the data d, in its range or not
 
 module _ (s : List ℕ) (t p n : ℕ) (d : List ℕ) (k : MetaKind) (fit : p + n ≤ length s) (got : take n (drop p s) ≡ d) (kind : kind_of t ≡ k) where
-  row_ok : value_ok k d ≡ true → Found (kind_at (p + n) (meta_of k t d)) (p + n) 0 0 ≡ frame_step (length s) (meta_data t n (drop p s))
+  row_ok : value_ok k d ≡ true → Ok (silent (kind_at (p + n) (meta_of k t d)) (p + n)) ≡ frame_step (length s) (meta_data t n (drop p s))
   unfolding meta_data and_then check frame_step frame_at kind_in after
   row_ok h = simp (data_at_lem s p n fit, got, kind, h, place_back s (p + n) fit)
 
-  row_bad : value_ok k d ≡ false → Refused 11 ≡ frame_step (length s) (meta_data t n (drop p s))
+  row_bad : value_ok k d ≡ false → Err 11 ≡ frame_step (length s) (meta_data t n (drop p s))
   unfolding meta_data and_then check frame_step
   row_bad h = simp (data_at_lem s p n fit, got, kind, h)
 
@@ -75,45 +75,45 @@ module _ (s : List ℕ) (p : ℕ) where
   abbrev B : ℕ → ℕ
   B i = get_or (drop p s) i 0
 
-  abbrev M : ℕ → ℕ → FrameStep
+  abbrev M : ℕ → ℕ → Result FrameRead ℕ
   M t n = frame_step (length s) (meta_data t n (drop p s))
 
   got : (n : ℕ) → p + n ≤ length s → take n (drop p s) ≡ bytes_from n (drop p s) 0
   got n h = let fit : n ≤ length (drop p s) = simp length-drop (omega arith) in take_from n (drop p s) fit
 
-  pub row_sequence : (v : ℕ) → p + 2 ≤ length s → v ≡ number (bytes_from 2 (drop p s) 0) → Found (SequenceNumber v) (p + 2) 0 0 ≡ M 0 2
+  pub row_sequence : (v : ℕ) → p + 2 ≤ length s → v ≡ number (bytes_from 2 (drop p s) 0) → Ok (silent (SequenceNumber v) (p + 2)) ≡ M 0 2
   unfolding kind_of value_ok kind_at meta_of
-  row_sequence v h e = ap (λ z. Found (SequenceNumber z) (p + 2) 0 0) e ∙ row_ok s 0 p 2 (B 0 ∷ B 1 ∷ []) sequence_kind h (got 2 h) refl refl
+  row_sequence v h e = ap (λ z. Ok (silent (SequenceNumber z) (p + 2))) e ∙ row_ok s 0 p 2 (B 0 ∷ B 1 ∷ []) sequence_kind h (got 2 h) refl refl
 
-  pub row_prefix : (a : ℕ) → p + 1 ≤ length s → a ≡ B 0 → Found (ChannelPrefix a) (p + 1) 0 0 ≡ M 0x20 1
+  pub row_prefix : (a : ℕ) → p + 1 ≤ length s → a ≡ B 0 → Ok (silent (ChannelPrefix a) (p + 1)) ≡ M 0x20 1
   unfolding kind_of value_ok kind_at meta_of number horner
-  row_prefix a h ea = ap (λ z. Found (ChannelPrefix z) (p + 1) 0 0) (omega arith) ∙ row_ok s 0x20 p 1 (B 0 ∷ []) prefix_kind h (got 1 h) refl refl
+  row_prefix a h ea = ap (λ z. Ok (silent (ChannelPrefix z) (p + 1))) (omega arith) ∙ row_ok s 0x20 p 1 (B 0 ∷ []) prefix_kind h (got 1 h) refl refl
 
-  pub row_port : (a : ℕ) → p + 1 ≤ length s → a ≡ B 0 → Found (MidiPort a) (p + 1) 0 0 ≡ M 0x21 1
+  pub row_port : (a : ℕ) → p + 1 ≤ length s → a ≡ B 0 → Ok (silent (MidiPort a) (p + 1)) ≡ M 0x21 1
   unfolding kind_of value_ok kind_at meta_of number horner
-  row_port a h ea = ap (λ z. Found (MidiPort z) (p + 1) 0 0) (omega arith) ∙ row_ok s 0x21 p 1 (B 0 ∷ []) port_kind h (got 1 h) refl refl
+  row_port a h ea = ap (λ z. Ok (silent (MidiPort z) (p + 1))) (omega arith) ∙ row_ok s 0x21 p 1 (B 0 ∷ []) port_kind h (got 1 h) refl refl
 
-  module _ (a b c : ℕ) (h : p + 3 ≤ length s) (ea : a ≡ B 0) (eb : b ≡ B 1) (ec : c ≡ B 2) where
-    pub row_tempo : ((a * 256 + b) * 256 + c ≡ 0 → ⊥) → Found (Tempo ((a * 256 + b) * 256 + c)) (p + 3) 0 0 ≡ M 0x51 3
+  module _ (m : ℕ) (h : p + 3 ≤ length s) (e : m ≡ number (bytes_from 3 (drop p s) 0)) where
+    pub row_tempo : (m ≡ 0 → ⊥) → Ok (silent (Tempo m) (p + 3)) ≡ M 0x51 3
     unfolding kind_of value_ok kind_at meta_of number horner
     row_tempo n =
-        ap (λ z. Found (Tempo z) (p + 3) 0 0) (omega arith)
-        ∙ row_ok s 0x51 p 3 (B 0 ∷ B 1 ∷ B 2 ∷ []) tempo_kind h (got 3 h) refl (le-leb 1 (((0 * 256 + B 0) * 256 + B 1) * 256 + B 2) (omega arith))
+        ap (λ z. Ok (silent (Tempo z) (p + 3))) e
+        ∙ row_ok s 0x51 p 3 (B 0 ∷ B 1 ∷ B 2 ∷ []) tempo_kind h (got 3 h) refl (le-leb 1 (((0 * 256 + B 0) * 256 + B 1) * 256 + B 2) (omega (arith, e)))
 
-    pub row_tempo_bad : (a * 256 + b) * 256 + c ≡ 0 → Refused 11 ≡ M 0x51 3
+    pub row_tempo_bad : m ≡ 0 → Err 11 ≡ M 0x51 3
     unfolding kind_of value_ok number horner
-    row_tempo_bad z = row_bad s 0x51 p 3 (B 0 ∷ B 1 ∷ B 2 ∷ []) tempo_kind h (got 3 h) refl (lt-leb 1 (((0 * 256 + B 0) * 256 + B 1) * 256 + B 2) (omega arith))
+    row_tempo_bad z = row_bad s 0x51 p 3 (B 0 ∷ B 1 ∷ B 2 ∷ []) tempo_kind h (got 3 h) refl (lt-leb 1 (((0 * 256 + B 0) * 256 + B 1) * 256 + B 2) (omega (arith, e)))
 
-  pub row_offset_lem : (a b c f g : ℕ) → p + 5 ≤ length s → a ≡ B 0 → b ≡ B 1 → c ≡ B 2 → f ≡ B 3 → g ≡ B 4 → g ≤ 99 → Found (SmpteOffset a b c f g) (p + 5) 0 0 ≡ M 0x54 5
+  pub row_offset_lem : (a b c f g : ℕ) → p + 5 ≤ length s → a ≡ B 0 → b ≡ B 1 → c ≡ B 2 → f ≡ B 3 → g ≡ B 4 → g ≤ 99 → Ok (silent (SmpteOffset a b c f g) (p + 5)) ≡ M 0x54 5
   unfolding kind_of value_ok kind_at meta_of
   row_offset_lem a b c f g h ea eb ec ef eg k =
       rw (ea, eb, ec, ef, eg) (row_ok s 0x54 p 5 (B 0 ∷ B 1 ∷ B 2 ∷ B 3 ∷ B 4 ∷ []) offset_kind h (got 5 h) refl (le-leb (B 4) 99 (omega arith)))
 
-  pub row_offset_bad : (g : ℕ) → p + 5 ≤ length s → g ≡ B 4 → 99 < g → Refused 11 ≡ M 0x54 5
+  pub row_offset_bad : (g : ℕ) → p + 5 ≤ length s → g ≡ B 4 → 99 < g → Err 11 ≡ M 0x54 5
   unfolding kind_of value_ok
   row_offset_bad g h eg k = row_bad s 0x54 p 5 (B 0 ∷ B 1 ∷ B 2 ∷ B 3 ∷ B 4 ∷ []) offset_kind h (got 5 h) refl (lt-leb (B 4) 99 (omega arith))
 
-  pub row_time_lem : (a b c f : ℕ) → p + 4 ≤ length s → a ≡ B 0 → b ≡ B 1 → c ≡ B 2 → f ≡ B 3 → Found (TimeSignature a b c f) (p + 4) 0 0 ≡ M 0x58 4
+  pub row_time_lem : (a b c f : ℕ) → p + 4 ≤ length s → a ≡ B 0 → b ≡ B 1 → c ≡ B 2 → f ≡ B 3 → Ok (silent (TimeSignature a b c f) (p + 4)) ≡ M 0x58 4
   unfolding kind_of value_ok kind_at meta_of
   row_time_lem a b c f h ea eb ec ef = rw (ea, eb, ec, ef) (row_ok s 0x58 p 4 (B 0 ∷ B 1 ∷ B 2 ∷ B 3 ∷ []) time_kind h (got 4 h) refl refl)
 
@@ -121,24 +121,24 @@ module _ (s : List ℕ) (p : ℕ) where
     key_data : take 2 (drop p s) ≡ a ∷ b ∷ []
     key_data = rw (ea, eb) (got 2 h)
 
-    pub row_sharps : a ≤ 7 → b ≤ 1 → Found (KeySignature a b) (p + 2) 0 0 ≡ M 0x59 2
+    pub row_sharps : a ≤ 7 → b ≤ 1 → Ok (silent (KeySignature a b) (p + 2)) ≡ M 0x59 2
     unfolding kind_of value_ok kind_at meta_of key_of key_byte pick
     row_sharps k m =
         let ok-is : value_ok key_kind (a ∷ b ∷ []) ≡ true = simp (le-leb a 7 k, le-leb b 1 m) in
         rw (le-leb a 7 k) at (row_ok s 0x59 p 2 (a ∷ b ∷ []) key_kind h key_data refl ok-is)
 
-    pub row_flats : 249 ≤ a → a < 256 → b ≤ 1 → Found (KeySignature a b) (p + 2) 0 0 ≡ M 0x59 2
+    pub row_flats : 249 ≤ a → a < 256 → b ≤ 1 → Ok (silent (KeySignature a b) (p + 2)) ≡ M 0x59 2
     unfolding kind_of value_ok kind_at meta_of key_of key_byte pick
     row_flats k f m =
         let ok-is : value_ok key_kind (a ∷ b ∷ []) ≡ true = simp (lt-leb a 7 (omega arith), le-leb 249 a k, le-leb b 1 m) in
         let back : 256 - (256 - a) ≡ a = omega arith in
         rw (lt-leb a 7 (omega arith), back) at (row_ok s 0x59 p 2 (a ∷ b ∷ []) key_kind h key_data refl ok-is)
 
-    pub row_key_bad : 8 ≤ a → a < 249 → Refused 11 ≡ M 0x59 2
+    pub row_key_bad : 8 ≤ a → a < 249 → Err 11 ≡ M 0x59 2
     unfolding kind_of value_ok
     row_key_bad k m = row_bad s 0x59 p 2 (a ∷ b ∷ []) key_kind h key_data refl (simp (lt-leb a 7 k, lt-leb 249 a m))
 
-    pub row_minor_bad : 1 < b → Refused 11 ≡ M 0x59 2
+    pub row_minor_bad : 1 < b → Err 11 ≡ M 0x59 2
     unfolding kind_of value_ok
     row_minor_bad k = row_bad s 0x59 p 2 (a ∷ b ∷ []) key_kind h key_data refl (rw (lt-leb b 1 k) (and_false (leb a 7 || leb 249 a)))
 
@@ -151,28 +151,28 @@ module _ (s : List ℕ) (p : ℕ) where
     start : p ≡ p + n - length (take n (drop p s))
     start = omega (arith, size)
 
-    pub row_end_lem : t ≡ 0x2f → Found EndTrack (p + n) 0 0 ≡ M t n
+    pub row_end_lem : t ≡ 0x2f → Ok (silent EndTrack (p + n)) ≡ M t n
     unfolding kind_of value_ok kind_at meta_of
     row_end_lem e = row_ok s t p n (take n (drop p s)) end_kind fit refl (ap kind_of e) refl
 
-    pub row_text : 1 ≤ t → t ≤ 7 → Found (Text t p n) (p + n) 0 0 ≡ M t n
+    pub row_text : 1 ≤ t → t ≤ 7 → Ok (silent (Text t p n) (p + n)) ≡ M t n
     unfolding value_ok kind_at meta_of
-    row_text h g = ap₂ (λ x y. Found (Text t x y) (p + n) 0 0) start size ∙ row_ok s t p n (take n (drop p s)) text_kind fit refl (text_kind_lem t h g) refl
+    row_text h g = ap₂ (λ x y. Ok (silent (Text t x y) (p + n))) start size ∙ row_ok s t p n (take n (drop p s)) text_kind fit refl (text_kind_lem t h g) refl
 
-    pub row_specific : t ≡ 0x7f → Found (SequencerSpecific p n) (p + n) 0 0 ≡ M t n
+    pub row_specific : t ≡ 0x7f → Ok (silent (SequencerSpecific p n) (p + n)) ≡ M t n
     unfolding kind_of value_ok kind_at meta_of
-    row_specific e = ap₂ (λ x y. Found (SequencerSpecific x y) (p + n) 0 0) start size ∙ row_ok s t p n (take n (drop p s)) specific_kind fit refl (ap kind_of e) refl
+    row_specific e = ap₂ (λ x y. Ok (silent (SequencerSpecific x y) (p + n))) start size ∙ row_ok s t p n (take n (drop p s)) specific_kind fit refl (ap kind_of e) refl
 
-    pub row_unknown : kind_of t ≡ unknown_kind → Found (UnknownMeta t p n) (p + n) 0 0 ≡ M t n
+    pub row_unknown : kind_of t ≡ unknown_kind → Ok (silent (UnknownMeta t p n) (p + n)) ≡ M t n
     unfolding value_ok kind_at meta_of
-    row_unknown e = ap₂ (λ x y. Found (UnknownMeta t x y) (p + n) 0 0) start size ∙ row_ok s t p n (take n (drop p s)) unknown_kind fit refl e refl
+    row_unknown e = ap₂ (λ x y. Ok (silent (UnknownMeta t x y) (p + n))) start size ∙ row_ok s t p n (take n (drop p s)) unknown_kind fit refl e refl
 
 -- a type of a fixed length has that length
 pub sized : (t u n k : ℕ) → t ≡ u → length_ok (kind_of u) n ≡ eqb n k → length_ok (kind_of t) n ≡ true → n ≡ k
 sized t u n k e q h = eqb-true n k (sym q ∙ ap (λ z. length_ok (kind_of z) n) (sym e) ∙ h)
 
 -- the same row by other names for its type and its length
-pub same_row : (s : List ℕ) (p t u n k : ℕ) (r : FrameStep) → t ≡ u → n ≡ k → r ≡ frame_step (length s) (meta_data u k (drop p s))
+pub same_row : (s : List ℕ) (p t u n k : ℕ) (r : Result FrameRead ℕ) → t ≡ u → n ≡ k → r ≡ frame_step (length s) (meta_data u k (drop p s))
     → r ≡ frame_step (length s) (meta_data t n (drop p s))
 same_row s p t u n k r e q h = h ∙ ap₂ (λ a b. frame_step (length s) (meta_data a b (drop p s))) (sym e) (sym q)
 

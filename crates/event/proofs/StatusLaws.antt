@@ -14,15 +14,15 @@ use Rattle.event.specs.Meta.{kind_of}
 use Rattle.event.specs.Outcome.{ok, refused, and_then, check}
 use Rattle.event.specs.Reader.{read_vlq, channel_data, is_channel, read_exclusive, length_ok, meta_data, read_meta_of, read_meta, read_frame}
 use Rattle.event.specs.Step.{frame_step}
-use Rattle.event.specs.declared.FrameStep.TheVariants.{Refused}
+use Rattle.std.specs.Prelude.{Err}
 use Rattle.event.proofs.BytesLaws.{data_short}
 use Rattle.event.proofs.FrameLaws.{channel_is}
 
-pub frame_none : (s : List ℕ) (f at : ℕ) → length s ≤ at → Refused 6 ≡ frame_step (length s) (read_frame f (drop at s))
+pub frame_none : (s : List ℕ) (f at : ℕ) → length s ≤ at → Err 6 ≡ frame_step (length s) (read_frame f (drop at s))
 unfolding read_frame frame_step
 frame_none s f at h = rw (drop_of_length-le s h)
 
-pub meta_none : (s : List ℕ) (at : ℕ) → length s ≤ at → Refused 6 ≡ frame_step (length s) (read_meta (drop at s))
+pub meta_none : (s : List ℕ) (at : ℕ) → length s ≤ at → Err 6 ≡ frame_step (length s) (read_meta (drop at s))
 unfolding read_meta frame_step
 meta_none s at h = rw (drop_of_length-le s h)
 
@@ -59,23 +59,23 @@ module _ (s : List ℕ) (f at : ℕ) (h : at < length s) where
   unfolding read_frame pick
   frame_meta e = simp (there, e)
 
-  pub frame_other : Other b → Refused 8 ≡ frame_step (length s) (read_frame f (drop at s))
+  pub frame_other : Other b → Err 8 ≡ frame_step (length s) (read_frame f (drop at s))
   unfolding read_frame pick frame_step
   frame_other o =
       simp (there, lt-leb b 127 (omega (arith, o.high)), lt-leb b 239 o.high, ne_eqb b 255 o.meta, ne_eqb b 240 o.plain, ne_eqb b 247 o.packet)
 
   -- ---- from the type of a meta event on
 
-  pub meta_type : 127 < b → Refused 8 ≡ frame_step (length s) (read_meta (drop at s))
+  pub meta_type : 127 < b → Err 8 ≡ frame_step (length s) (read_meta (drop at s))
   unfolding read_meta read_meta_of check frame_step
   meta_type high = simp (there, lt-leb b 127 high)
 
-  pub meta_bad : (k z : ℕ) → b ≤ 127 → read_vlq (drop (at + 1) s) ≡ refused k z → Refused k ≡ frame_step (length s) (read_meta (drop at s))
+  pub meta_bad : (k z : ℕ) → b ≤ 127 → read_vlq (drop (at + 1) s) ≡ refused k z → Err k ≡ frame_step (length s) (read_meta (drop at s))
   unfolding read_meta read_meta_of check and_then frame_step
   meta_bad k z low q = simp (there, le-leb b 127 low, q)
 
   module _ (n p : ℕ) (low : b ≤ 127) (q : read_vlq (drop (at + 1) s) ≡ ok n (drop p s)) where
-    pub meta_wrong : length_ok (kind_of b) n ≡ false → Refused 10 ≡ frame_step (length s) (read_meta (drop at s))
+    pub meta_wrong : length_ok (kind_of b) n ≡ false → Err 10 ≡ frame_step (length s) (read_meta (drop at s))
     unfolding read_meta read_meta_of check and_then frame_step
     meta_wrong e = simp (there, le-leb b 127 low, q, e)
 
@@ -83,7 +83,7 @@ module _ (s : List ℕ) (f at : ℕ) (h : at < length s) where
     unfolding read_meta read_meta_of check and_then
     meta_right e = simp (there, le-leb b 127 low, q, e)
 
-    pub meta_short : length_ok (kind_of b) n ≡ true → length s - p < n → Refused 6 ≡ frame_step (length s) (read_meta (drop at s))
+    pub meta_short : length_ok (kind_of b) n ≡ true → length s - p < n → Err 6 ≡ frame_step (length s) (read_meta (drop at s))
     unfolding meta_data and_then frame_step
     meta_short e few = simp (meta_right e, data_short s p n few)
 

@@ -1,5 +1,5 @@
 -- The numbers of the refusals, by document 01's table and those of the requests.
-use Rattle.std.specs.Prelude.{ℕ}
+use Rattle.std.specs.Prelude.{ℕ, Result, Ok, Err}
 use Rattle.event.specs.declared.refusal.Refusal.{Refusal}
 use Rattle.event.specs.declared.refusal.Refusal.TheVariants.{FileTooLong, FileCutShort, BadHeader, VariableTooLong, EventCutShort, TimeTooGreat, BadStatus, BadChannelData, BadMetaLength, BadMetaValue, BytesAfterEndTrack, BytesAfterLastTrack, RoomTooSmall, TextTooLong, BadField, UnknownRecord, WrongFieldCount, FieldOutOfRange, RecordOutOfOrder, StepTooGreat, TextCutShort, WrittenTooLong, BadManner, TooManyTracks, Format2, PrefixOrPort, TooFewRows, TableTooLong}
 
@@ -33,3 +33,9 @@ number_of Format2 = 32
 number_of PrefixOrPort = 33
 number_of TooFewRows = 37
 number_of TableTooLong = 38
+
+module _ {A : Type 0} where
+  -- an answer with the refusal by its number
+  abbrev pub numbered : Result A Refusal → Result A ℕ
+  numbered (Ok a) = Ok a
+  numbered (Err r) = Err (number_of r)

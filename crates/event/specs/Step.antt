@@ -1,6 +1,6 @@
 -- What the code's enums say, by document 01's numbers and values: the answer of each reader on the rest of a slice of n bytes,
 -- with places in that slice. The place after what was read is n less what is left.
-use Rattle.std.specs.Prelude.{ℕ, zero, suc, ◌-◌, Bool, true, false, List, [], ◌∷◌, length, get_or, take, drop, leb}
+use Rattle.std.specs.Prelude.{ℕ, zero, suc, Result, Ok, Err, ◌-◌, Bool, true, false, List, [], ◌∷◌, length, get_or, take, drop, leb}
 use Rattle.event.specs.Choice.{pick}
 use Rattle.event.specs.Outcome.{Outcome, ok, refused}
 use Rattle.event.specs.Event.{Event, Kind, note_off, note_on, poly_aftertouch, control, program, channel_aftertouch, pitch_bend, system_exclusive, system_exclusive_packet, sequence_number, text, channel_prefix, midi_port, end_track, tempo, smpte_offset, time_signature, key_signature, sequencer_specific, unknown_meta}
@@ -9,14 +9,9 @@ use Rattle.event.specs.Reader.{key_of, kind_in}
 use Rattle.event.specs.declared.EventKind.{EventKind}
 use Rattle.event.specs.declared.EventKind.TheVariants.{NoteOff, NoteOn, PolyAftertouch, Control, Program, ChannelAftertouch, PitchBend, SystemExclusive, SystemExclusivePacket, SequenceNumber, Text, ChannelPrefix, MidiPort, EndTrack, Tempo, SmpteOffset, TimeSignature, KeySignature, SequencerSpecific, UnknownMeta}
 use Rattle.event.specs.declared.DataPlace.{DataPlace}
-use Rattle.event.specs.declared.NumberStep.{NumberStep}
-use Rattle.event.specs.declared.NumberStep.TheVariants.{Value, Unread}
-use Rattle.event.specs.declared.ByteStep.{ByteStep}
-use Rattle.event.specs.declared.ByteStep.TheVariants.{Byte, Bad}
-use Rattle.event.specs.declared.FrameStep.{FrameStep}
-use Rattle.event.specs.declared.FrameStep.TheVariants.{Found, Refused}
-use Rattle.event.specs.declared.EventStep.{EventStep}
-use Rattle.event.specs.declared.EventStep.TheVariants.{Read, Stop}
+use Rattle.event.specs.declared.NumberRead.{NumberRead}
+use Rattle.event.specs.declared.FrameRead.{FrameRead}
+use Rattle.event.specs.declared.EventRead.{EventRead}
 
 -- the k bytes of l from the place i on; 0 stands for a byte past its end
 abbrev pub bytes_from : ℕ → List ℕ → ℕ → List ℕ
@@ -24,14 +19,14 @@ bytes_from zero l i = []
 bytes_from (suc k) l i = get_or l i 0 ∷ bytes_from k l (suc i)
 
 -- a variable-length number, the place after it and its padding x, or the number of the refusal
-unfoldable pub number_step : ℕ → ℕ → Outcome ℕ → NumberStep
-number_step n x (ok v r) = Value v (n - length r) x
-number_step n x (refused k p) = Unread k
+unfoldable pub number_step : ℕ → ℕ → Outcome ℕ → Result NumberRead ℕ
+number_step n x (ok v r) = Ok (record { value = v; next = n - length r; padding = x })
+number_step n x (refused k p) = Err k
 
--- a data byte of a channel event and the place after it, or the number of the refusal
-unfoldable pub byte_step : ℕ → Outcome ℕ → ByteStep
-byte_step n (ok v r) = Byte v (n - length r)
-byte_step n (refused k p) = Bad k
+-- a data byte of a channel event, or the number of the refusal
+unfoldable pub byte_step : Outcome ℕ → Result ℕ ℕ
+byte_step (ok v r) = Ok v
+byte_step (refused k p) = Err k
 
 -- a kind whose event ends before the place next: its data stand there, at next less their number
 unfoldable pub kind_at : ℕ → Kind → EventKind
@@ -80,23 +75,28 @@ end_of (SequencerSpecific a b) = false
 end_of (UnknownMeta a b c) = false
 
 -- an event after its delta: kind and fields, the place after it, the status in force after it; its length's padding is told apart
-unfoldable pub frame_at : ℕ → Frame → FrameStep
-frame_at next x = Found (kind_at next (kind_in x)) next (after x) 0
+unfoldable pub frame_at : ℕ → Frame → FrameRead
+frame_at next x = record { kind = kind_at next (kind_in x); next = next; status = after x; padding = 0 }
+
+-- an event that leaves no status in force
+abbrev pub silent : EventKind → ℕ → FrameRead
+silent k next = record { kind = k; next = next; status = 0; padding = 0 }
 
 -- the same, or the number of the refusal
-unfoldable pub frame_step : ℕ → Outcome Frame → FrameStep
-frame_step n (ok x r) = frame_at (n - length r) x
-frame_step n (refused k p) = Refused k
+unfoldable pub frame_step : ℕ → Outcome Frame → Result FrameRead ℕ
+frame_step n (ok x r) = Ok (frame_at (n - length r) x)
+frame_step n (refused k p) = Err k
 
 -- with the padding x of its length
-unfoldable pub padded : ℕ → FrameStep → FrameStep
-padded x (Found k next status e) = Found k next status x
-padded x (Refused number) = Refused number
+unfoldable pub padded : ℕ → Result FrameRead ℕ → Result FrameRead ℕ
+padded x (Ok f) = Ok (record { kind = f.kind; next = f.next; status = f.status; padding = x })
+padded x (Err k) = Err k
 
 -- an event: its Time besides, and the padding x of its delta and length
-unfoldable pub event_step : ℕ → ℕ → Outcome Event → EventStep
-event_step n x (ok e r) = Read (record { 0 = e.time }) (kind_at (n - length r) e.kind) (n - length r) (after (frame e.kind)) x
-event_step n x (refused k p) = Stop k
+unfoldable pub event_step : ℕ → ℕ → Outcome Event → Result EventRead ℕ
+event_step n x (ok e r) =
+    Ok (record { time = record { 0 = e.time }; kind = kind_at (n - length r) e.kind; next = n - length r; status = after (frame e.kind); padding = x })
+event_step n x (refused k p) = Err k
 
 -- the len bytes of s from the place start on, or none where they are not all there
 unfoldable pub data_at : List ℕ → ℕ → ℕ → List ℕ

@@ -5,28 +5,28 @@ ghost use Rattle.event.specs.Reader.{data_byte, one_data, two_data, channel_data
 ghost use Rattle.event.specs.Outcome.{check};
 ghost use Rattle.event.specs.Sort.{sort_of};
 ghost use Rattle.event.specs.Step.{byte_step, frame_at, frame_step};
+ghost use Rattle.event.specs.Refusal.{numbered};
 
+use super::refusal::Refusal;
 use super::sort::{ONE_FOLLOWS, TWO_FOLLOW};
-use super::{ByteStep, EventKind, FrameStep};
+use super::{EventKind, FrameRead};
 
-fn data_byte(body: &[u8], at: usize) -> ByteStep
-    ensures { result ≡ byte_step (length body.now) (data_byte (drop at body.now)) }
+// A data byte; the place after it is one on.
+fn data_byte(body: &[u8], at: usize) -> Result<u8, Refusal>
+    ensures { numbered result ≡ byte_step (data_byte (drop at body.now)) }
 {
     if body.len() <= at {
-        return ByteStep::Bad { number: 6 };
+        return Err(Refusal::EventCutShort);
     }
     let value = body[at];
     if value < 128 {
-        return ByteStep::Byte {
-            value,
-            next: at + 1,
-        };
+        return Ok(value);
     }
-    ByteStep::Bad { number: 9 }
+    Err(Refusal::BadChannelData)
 }
 
 // The event of a status and one data byte.
-fn one(status: u8, a: u8, next: usize) -> FrameStep
+fn one(status: u8, a: u8, next: usize) -> FrameRead
     ensures { result ≡ frame_at next (channel1 status a) }
 {
     let channel = status % 16;
@@ -34,7 +34,7 @@ fn one(status: u8, a: u8, next: usize) -> FrameStep
         0..=0xCF => EventKind::Program { channel, number: a },
         0xD0..=0xFF => EventKind::ChannelAftertouch { channel, value: a },
     };
-    FrameStep::Found {
+    FrameRead {
         kind,
         next,
         status,
@@ -43,7 +43,7 @@ fn one(status: u8, a: u8, next: usize) -> FrameStep
 }
 
 // The event of a status and two data bytes.
-fn two(status: u8, a: u8, b: u8, next: usize) -> FrameStep
+fn two(status: u8, a: u8, b: u8, next: usize) -> FrameRead
     ensures { result ≡ frame_at next (channel2 status a b) }
 {
     let channel = status % 16;
@@ -73,7 +73,7 @@ fn two(status: u8, a: u8, b: u8, next: usize) -> FrameStep
             value: 128 * (b as u16) + (a as u16),
         },
     };
-    FrameStep::Found {
+    FrameRead {
         kind,
         next,
         status,
@@ -81,36 +81,30 @@ fn two(status: u8, a: u8, b: u8, next: usize) -> FrameStep
     }
 }
 
-fn one_byte(body: &[u8], at: usize, status: u8) -> FrameStep
-    ensures { result ≡ frame_step (length body.now) (one_data status (drop at body.now)) }
+fn one_byte(body: &[u8], at: usize, status: u8) -> Result<FrameRead, Refusal>
+    ensures { numbered result ≡ frame_step (length body.now) (one_data status (drop at body.now)) }
 {
-    match data_byte(body, at) {
-        ByteStep::Bad { number } => FrameStep::Refused { number },
-        ByteStep::Byte { value, next } => one(status, value, next),
-    }
+    let a = data_byte(body, at)?;
+    Ok(one(status, a, at + 1))
 }
 
-fn two_bytes(body: &[u8], at: usize, status: u8) -> FrameStep
-    ensures { result ≡ frame_step (length body.now) (two_data status (drop at body.now)) }
+fn two_bytes(body: &[u8], at: usize, status: u8) -> Result<FrameRead, Refusal>
+    ensures { numbered result ≡ frame_step (length body.now) (two_data status (drop at body.now)) }
 {
-    match data_byte(body, at) {
-        ByteStep::Bad { number } => FrameStep::Refused { number },
-        ByteStep::Byte { value: a, next: p } => match data_byte(body, p) {
-            ByteStep::Bad { number } => FrameStep::Refused { number },
-            ByteStep::Byte { value: b, next } => two(status, a, b, next),
-        },
-    }
+    let a = data_byte(body, at)?;
+    let b = data_byte(body, at + 1)?;
+    Ok(two(status, a, b, at + 2))
 }
 
 // A channel event of a status, written or in force, from its data bytes on; sort is what the table says of the
 // status.
-pub fn channel_event(body: &[u8], at: usize, status: u8, sort: u8) -> FrameStep
+pub fn channel_event(body: &[u8], at: usize, status: u8, sort: u8) -> Result<FrameRead, Refusal>
     requires { sort ≡ sort_of status }
-    ensures { result ≡ frame_step (length body.now) (check (is_channel status) 8 0 (channel_data status (drop at body.now))) }
+    ensures { numbered result ≡ frame_step (length body.now) (check (is_channel status) 8 0 (channel_data status (drop at body.now))) }
 {
     match sort {
         ONE_FOLLOWS => one_byte(body, at, status),
         TWO_FOLLOW => two_bytes(body, at, status),
-        _ => FrameStep::Refused { number: 8 },
+        _ => Err(Refusal::BadStatus),
     }
 }

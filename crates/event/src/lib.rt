@@ -6,7 +6,7 @@ ghost use Rattle.event.specs.Dates.{later_of, since_of};
 
 pub mod refusal; // refusal.rt: why a file, a text or a table is refused
 pub mod number; // number.rt: variable-length numbers, and bytes at a place
-pub mod sort; // sort.rt: the byte after the delta
+mod sort; // sort.rt: the byte after the delta
 mod channel; // channel.rt: channel events
 pub mod meta; // meta.rt: system exclusive and meta events
 pub mod read; // read.rt: an event with its delta
@@ -19,41 +19,21 @@ pub struct Delta(pub u32);
 #[derive(Clone, Copy)]
 pub struct Time(pub u32);
 
-#[derive(Clone, Copy)]
-pub enum Later {
-    At(Time),
-    Over,
-}
-
-#[derive(Clone, Copy)]
-pub enum Since {
-    After(Delta),
-    Before,
-}
-
 impl Time {
     // A delta added to a Time; two Times are never added.
-    pub fn later(self, d: Delta) -> Later
+    pub fn later(self, d: Delta) -> Option<Time>
         ensures { result ≡ later_of self.0 d.0 }
     {
-        let t = self.0;
-        let n = d.0;
-        if n <= 4294967295 - t {
-            return Later::At(Time(t + n));
-        }
-        Later::Over
+        let sum = self.0.checked_add(d.0)?;
+        Some(Time(sum))
     }
 
     // A Time less an earlier one is a delta.
-    pub fn since(self, earlier: Time) -> Since
+    pub fn since(self, earlier: Time) -> Option<Delta>
         ensures { result ≡ since_of self.0 earlier.0 }
     {
-        let t = self.0;
-        let u = earlier.0;
-        if u <= t {
-            return Since::After(Delta(t - u));
-        }
-        Since::Before
+        let step = self.0.checked_sub(earlier.0)?;
+        Some(Delta(step))
     }
 }
 
@@ -154,53 +134,31 @@ pub struct DataPlace {
     pub len: usize,
 }
 
-// What reading a variable-length number answers: its value, the place after it and its padding, which
-// is how many bytes it took above the fewest; or a refusal.
+// A variable-length number that was read: its value, the place after it and its padding, which is how many bytes it took above
+// the fewest.
 #[derive(Clone, Copy)]
-pub enum NumberStep {
-    Value {
-        value: u32,
-        next: usize,
-        padding: u32,
-    },
-    Unread {
-        number: u8,
-    },
+pub struct NumberRead {
+    pub value: u32,
+    pub next: usize,
+    pub padding: u32,
 }
 
-// What reading a channel data byte answers.
+// An event that was read after its delta: the event, the place after it, the status then in force (0: none) and the padding of
+// its length (0 where it has none).
 #[derive(Clone, Copy)]
-pub enum ByteStep {
-    Byte { value: u8, next: usize },
-    Bad { number: u8 },
+pub struct FrameRead {
+    pub kind: EventKind,
+    pub next: usize,
+    pub status: u8,
+    pub padding: u32,
 }
 
-// What reading an event after its delta answers: the event, the place after it, the status then in
-// force (0: none) and the padding of its length (0 where it has none); or a refusal.
+// An event that was read with its delta: its Time besides, and the padding of delta and length.
 #[derive(Clone, Copy)]
-pub enum FrameStep {
-    Found {
-        kind: EventKind,
-        next: usize,
-        status: u8,
-        padding: u32,
-    },
-    Refused {
-        number: u8,
-    },
-}
-
-// What reading an event with its delta answers: its Time besides, and the padding of delta and length.
-#[derive(Clone, Copy)]
-pub enum EventStep {
-    Read {
-        time: Time,
-        kind: EventKind,
-        next: usize,
-        status: u8,
-        padding: u32,
-    },
-    Stop {
-        number: u8,
-    },
+pub struct EventRead {
+    pub time: Time,
+    pub kind: EventKind,
+    pub next: usize,
+    pub status: u8,
+    pub padding: u32,
 }

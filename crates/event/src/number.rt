@@ -5,8 +5,13 @@ ghost use Rattle.event.specs.Reader.{read_vlq};
 ghost use Rattle.event.specs.Step.{bytes_from, number_step, data_at};
 ghost use Rattle.event.specs.Choice.{pick};
 ghost use Rattle.event.specs.Padding.{vlq_padding};
+ghost use Rattle.event.specs.Refusal.{numbered};
 
-use super::NumberStep;
+use super::NumberRead;
+use super::refusal::Refusal;
+
+// A variable-length number has at most so many bytes.
+const MOST_BYTES: u32 = 4;
 
 // The padding of a number of which so much has come: one more where that is 0, since 80h came then and nothing else.
 fn padding_after(acc: u32, padding: u32) -> u32
@@ -20,33 +25,31 @@ fn padding_after(acc: u32, padding: u32) -> u32
 }
 
 // A variable-length number, and how many bytes it takes above the fewest: its leading 80h bytes.
-pub fn read_number(body: &[u8], at: usize) -> NumberStep
-    ensures { result ≡ number_step (length body.now) (vlq_padding (drop at body.now)) (read_vlq (drop at body.now)) }
+pub fn read_number(body: &[u8], at: usize) -> Result<NumberRead, Refusal>
+    ensures { numbered result ≡ number_step (length body.now) (vlq_padding (drop at body.now)) (read_vlq (drop at body.now)) }
 {
-    let mut left: usize = 4;
     let mut acc: u32 = 0;
     let mut p = at;
     let mut padding: u32 = 0;
-    while 0 < left {
+    for come in 0..MOST_BYTES {
         if body.len() <= p {
-            return NumberStep::Unread { number: 6 };
+            return Err(Refusal::EventCutShort);
         }
         let b = body[p] as u32;
         p += 1;
         if b < 128 {
             let value = acc * 128 + b;
-            return NumberStep::Value {
+            return Ok(NumberRead {
                 value,
                 next: p,
                 padding,
-            };
+            });
         }
         let low = b - 128;
         acc = acc * 128 + low;
         padding = padding_after(acc, padding);
-        left -= 1;
     }
-    NumberStep::Unread { number: 5 }
+    Err(Refusal::VariableTooLong)
 }
 
 // The byte k after a place, or 0 where there is none.
@@ -62,22 +65,16 @@ pub fn byte_at(body: &[u8], at: usize, k: usize) -> u8
     0
 }
 
-// The number of two bytes at a place, high byte first; a byte past the end counts as 0.
-pub fn two_byte_number(body: &[u8], at: usize) -> u32
-    ensures { result ≡ number (bytes_from 2 (drop at body.now) 0) }
+// The number of so many bytes at a place, high byte first; a byte past the end counts as 0.
+pub fn big_endian<const N: usize>(body: &[u8], at: usize) -> u32
+    requires { N ≤ 4 }
+    ensures { result ≡ number (bytes_from N (drop at body.now) 0) }
 {
-    byte_at(body, at, 0) as u32 * 256 + byte_at(body, at, 1) as u32
-}
-
-// The number of four bytes at a place, high byte first; a byte past the end counts as 0.
-pub fn four_byte_number(body: &[u8], at: usize) -> u32
-    ensures { result ≡ number (bytes_from 4 (drop at body.now) 0) }
-{
-    let a = byte_at(body, at, 0) as u32;
-    let b = byte_at(body, at, 1) as u32;
-    let c = byte_at(body, at, 2) as u32;
-    let d = byte_at(body, at, 3) as u32;
-    ((a * 256 + b) * 256 + c) * 256 + d
+    let mut number: u32 = 0;
+    for k in 0..N {
+        number = number * 256 + byte_at(body, at, k) as u32;
+    }
+    number
 }
 
 // The data bytes of an event: so many of the body's own bytes from a place on, or none where they

@@ -16,8 +16,8 @@ pub const META: u8 = 16;
 
 const NO_EVENT: u8 = 20;
 
-// Beside each entry its byte, in hexadecimal digits. A loop holds the table and lends it.
-pub const SORTS: [u8; 256] = [
+// Beside each entry its byte, in hexadecimal digits.
+pub static SORTS: [u8; 256] = [
     DATA_BYTE, // 00
     DATA_BYTE, // 01
     DATA_BYTE, // 02
