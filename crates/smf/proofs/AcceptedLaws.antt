@@ -1,4 +1,5 @@
 -- A file that is accepted: its piece, and its header and tracks as the program reads them.
+use Rattle.std.specs.Prelude.{Ok, Err}
 use mathlib.Core.Path.{◌≡◌, sym, ap, subst, ◌∙◌}
 use Prim.Native.Nat.{ℕ, ◌≤◌}
 use mathlib.Core.Bool.{Bool, true, false}
@@ -15,7 +16,6 @@ use Rattle.smf.specs.PieceRead.{piece_from, piece_read}
 use Rattle.smf.specs.Step.{division_from, header_step}
 use Rattle.smf.specs.declared.Answer.{Answer}
 use Rattle.smf.specs.declared.Division.{Division}
-use Rattle.smf.specs.declared.HeaderStep.TheVariants.{Fields, BadHeader}
 use Rattle.smf.proofs.RefusalLaws.{judged_readable}
 use Rattle.smf.proofs.FileLaws.{file_sound}
 use Rattle.smf.proofs.VerdictLaws.{head_bad}
@@ -27,11 +27,11 @@ unfolding check Readable
 readable_check true n p x h = h
 readable_check false n p x h = absurd h
 
-pub header_there : (s : List ℕ) (k p : ℕ) → header_step (length s) (read_header s) ≡ BadHeader k p → Readable (read_file s) → ⊥
+pub header_there : (s : List ℕ) (k p : ℕ) → header_step (length s) (read_header s) ≡ Err (k, p) → Readable (read_file s) → ⊥
 unfolding read_file read_piece and_then Readable
 header_there s k p e h = rw (head_bad (length s) k p (read_header s) e) at (readable_check _ 1 0 _ h)
 
-pub file_accepted : (s : List ℕ) (a b : ℕ) (d : Division) (n : ℕ) → Bytes s → header_step (length s) (read_header s) ≡ Fields a b d n → Readable (read_file s) → Accepted s b n
+pub file_accepted : (s : List ℕ) (a b : ℕ) (d : Division) (n : ℕ) → Bytes s → header_step (length s) (read_header s) ≡ Ok (record { format = a; count = b; division = d; next = n }) → Readable (read_file s) → Accepted s b n
 file_accepted s a b d n bs e h = let (p, r, q) = readable_ok (read_file s) h in accepted_piece s a b d n p r bs e q
 
 read_piece_lem : (s : List ℕ) (p : Piece) (r : List ℕ) → Bytes s → read_file s ≡ ok p r → piece_read s ≡ p
@@ -45,12 +45,12 @@ pub record Headed (s : List ℕ) (a : ℕ) (d : Division) (p : Piece) : Type 0 w
   pub division : p.division ≡ division_from d
   pub lawful : LawfulDivision (division_from d)
 
-pub headed : (s : List ℕ) (a b : ℕ) (d : Division) (n : ℕ) → Bytes s → header_step (length s) (read_header s) ≡ Fields a b d n → (there : Accepted s b n) → Headed s a d there.piece
+pub headed : (s : List ℕ) (a b : ℕ) (d : Division) (n : ℕ) → Bytes s → header_step (length s) (read_header s) ≡ Ok (record { format = a; count = b; division = d; next = n }) → (there : Accepted s b n) → Headed s a d there.piece
 unfolding piece_read piece_from
 headed s a b d n bs e there =
     let p = there.piece in
     let same : piece_from s (header_step (length s) (read_header s)) ≡ p = read_piece_lem s p there.rest bs there.read in
-    let head : piece_from s (Fields a b d n) ≡ p = ap (piece_from s) (sym e) ∙ same in
+    let head : piece_from s (Ok (record { format = a; count = b; division = d; next = n })) ≡ p = ap (piece_from s) (sym e) ∙ same in
     let division : p.division ≡ division_from d = ap (λ z. z.division) (sym head) in
     record {
       same = same;

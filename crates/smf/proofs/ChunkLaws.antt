@@ -1,4 +1,12 @@
 -- A track's chunk, a track, and all the tracks, as the code reads them.
+use Rattle.event.proofs.PassedLaws.{ok_is, err_is}
+use Rattle.smf.proofs.ToldLaws.{same_refusal}
+use Rattle.smf.specs.declared.Chunk.{Chunk}
+use Rattle.smf.specs.declared.Walked.{Walked}
+use Rattle.smf.specs.declared.TrackRead.{TrackRead}
+use Rattle.std.specs.Prelude.{Result, Ok, Err}
+use Rattle.smf.specs.declared.Chunk.{Chunk}
+use Rattle.smf.specs.declared.TrackRead.{TrackRead}
 use mathlib.Core.Path.{◌≡◌, refl, sym, ap, ap₂, ◌∙◌}
 use Prim.Native.Nat.{ℕ, zero, suc, ◌+◌, ◌-◌, ◌<◌, ◌≤◌}
 use mathlib.Core.Bool.{true}
@@ -24,13 +32,6 @@ use Rattle.smf.specs.Layout.{lay_chunk, lay_chunks, lay_track}
 use Rattle.smf.specs.Reader.{read_all, read_head, find_track, read_chunk, read_track, read_tracks}
 use Rattle.smf.specs.Padding.{all_padding, track_padding}
 use Rattle.smf.specs.Step.{chunk_step, last_time, walk_step, track_step, tracks_step}
-use Rattle.smf.specs.declared.ChunkStep.{ChunkStep}
-use Rattle.smf.specs.declared.ChunkStep.TheVariants.{Body, BadChunk}
-use Rattle.smf.specs.declared.WalkStep.TheVariants.{Whole, Fault}
-use Rattle.smf.specs.declared.TrackStep.{TrackStep}
-use Rattle.smf.specs.declared.TrackStep.TheVariants.{Track, BadTrack}
-use Rattle.smf.specs.declared.TracksStep.{TracksStep}
-use Rattle.smf.specs.declared.TracksStep.TheVariants.{Next, BadTracks}
 use Rattle.smf.proofs.PassedLaws.{head_sound, ChunkLaid, chunk_sound}
 use Rattle.smf.proofs.FileLaws.{track_sound}
 use Rattle.smf.proofs.RefusalLaws.{head_size, track_size}
@@ -38,7 +39,7 @@ use Rattle.smf.proofs.HeaderLaws.{N, number_there}
 
 -- ---- a chunk
 
-abbrev C : List ℕ → ℕ → ChunkStep
+abbrev C : List ℕ → ℕ → Result Chunk (ℕ × ℕ)
 C s at = chunk_step (length s) (read_chunk at (drop at s))
 
 -- ---- the count of find_track never shows: any that is large enough gives the same
@@ -55,7 +56,7 @@ find_fuel (suc n) (suc m) at l bs hn hm =
     let rest = find_fuel n m (at + 8 + h.size) (drop h.size r) (bytes_drop r h.size laid.after) (omega arith) (omega arith) in
     ap (λ z. check (leb h.size (length r)) 2 at (pick (eqb h.tag track_tag) (ok (take h.size r) (drop h.size r)) z)) rest)
 
-pub chunk_short : (s : List ℕ) (at : ℕ) → length s < at + 8 → BadChunk 2 at ≡ C s at
+pub chunk_short : (s : List ℕ) (at : ℕ) → length s < at + 8 → Err (2, at) ≡ C s at
 unfolding read_chunk find_track read_head check and_then chunk_step
 chunk_short s at h =
     let few : length (drop at s) < 8 = simp length-drop (omega arith) in
@@ -78,7 +79,7 @@ module _ (s : List ℕ) (at : ℕ) (h : at + 8 ≤ length s) where
     unfolding read_chunk find_track and_then
     chunk_chain = rw (et, en) (simp head_there)
 
-    pub chunk_long : length s - (at + 8) < n → BadChunk 2 at ≡ C s at
+    pub chunk_long : length s - (at + 8) < n → Err (2, at) ≡ C s at
     unfolding check chunk_step
     chunk_long o =
         let few : length (drop (at + 8) s) < n = simp length-drop o in
@@ -88,7 +89,7 @@ module _ (s : List ℕ) (at : ℕ) (h : at + 8 ≤ length s) where
       fit : leb n (length (drop (at + 8) s)) ≡ true
       fit = let h : n ≤ length (drop (at + 8) s) = simp length-drop (omega arith) in le-leb n (length (drop (at + 8) s)) h
 
-      pub chunk_fine : tag ≡ track_tag → Body (at + 8) (at + 8 + n) ≡ C s at
+      pub chunk_fine : tag ≡ track_tag → Ok (record { start = (at + 8); end = (at + 8 + n) }) ≡ C s at
       unfolding check chunk_step pick
       chunk_fine right =
           let back : at + 8 + n - n ≡ at + 8 = omega arith in
@@ -103,10 +104,10 @@ module _ (s : List ℕ) (at : ℕ) (h : at + 8 ≤ length s) where
           let on : read_chunk at (drop at s) ≡ find_track (suc (length (drop (at + 8 + n) s))) (at + 8 + n) (drop (at + 8 + n) s) = chunk_chain ∙ simp (fit, ne_eqb tag track_tag wrong, drop-drop n (at + 8) s) same in
           ap (chunk_step (length s)) on
 
-pub chunk_bad : (n k p : ℕ) (m : Outcome (List ℕ)) → chunk_step n m ≡ BadChunk k p → m ≡ refused k p
+pub chunk_bad : (n k p : ℕ) (m : Outcome (List ℕ)) → chunk_step n m ≡ Err (k, p) → m ≡ refused k p
 unfolding chunk_step
 chunk_bad n k p (ok b r) e = let w : ◌≡◌ {A = ℕ} 0 1 = cc in absurd (omega arith)
-chunk_bad n k p (refused j z) e = let a : j ≡ k = cc in let b : z ≡ p = cc in cc
+chunk_bad n k p (refused j z) e = same_refusal j z k p e
 
 -- the body that lies between two places of the file
 pub record BodyAt (s : List ℕ) (at a b : ℕ) : Type 0 where
@@ -151,59 +152,61 @@ body_at s at a b body r come laid h ea eb =
     }
 
 -- a place past the end holds no chunk
-chunk_there : (s : List ℕ) (at a b : ℕ) → C s at ≡ Body a b → at ≤ length s
-chunk_there s at a b e = by_test (leb at (length s)) (λ t. leb-true at (length s) t) (λ t. let h = leb-false at (length s) t in let z : BadChunk 2 at ≡ Body a b = chunk_short s at (omega arith) ∙ e in let w : ◌≡◌ {A = ℕ} 0 1 = cc in absurd (omega arith))
+chunk_there : (s : List ℕ) (at a b : ℕ) → C s at ≡ Ok (record { start = a; end = b }) → at ≤ length s
+chunk_there s at a b e = by_test (leb at (length s)) (λ t. leb-true at (length s) t) (λ t. let h = leb-false at (length s) t in let z : ◌≡◌ {A = Result Chunk (ℕ × ℕ)} (Err (2, at)) (Ok (record { start = a; end = b })) = chunk_short s at (omega arith) ∙ e in let w : ◌≡◌ {A = ℕ} 0 1 = cc in absurd (omega arith))
 
-body_came : (s : List ℕ) (at a b : ℕ) (m : Outcome (List ℕ)) → Bytes s → at ≤ length s → read_chunk at (drop at s) ≡ m → chunk_step (length s) m ≡ Body a b → BodyAt s at a b
+body_came : (s : List ℕ) (at a b : ℕ) (m : Outcome (List ℕ)) → Bytes s → at ≤ length s → read_chunk at (drop at s) ≡ m → chunk_step (length s) m ≡ Ok (record { start = a; end = b }) → BodyAt s at a b
 unfolding chunk_step
 body_came s at a b (ok body r) bs h come e =
-    let ea : length s - length r - length body ≡ a = cc in
-    let eb : length s - length r ≡ b = cc in
+    let same = ok_is e in
+    let ea : length s - length r - length body ≡ a = ap (λ (c : Chunk). c.start) same in
+    let eb : length s - length r ≡ b = ap (λ (c : Chunk). c.end) same in
     body_at s at a b body r come (chunk_sound at (drop at s) body r (bytes_drop s at bs) come) h ea eb
 body_came s at a b (refused k p) bs h come e = let w : ◌≡◌ {A = ℕ} 0 1 = cc in absurd (omega arith)
 
-pub chunk_body : (s : List ℕ) (at a b : ℕ) → Bytes s → C s at ≡ Body a b → BodyAt s at a b
+pub chunk_body : (s : List ℕ) (at a b : ℕ) → Bytes s → C s at ≡ Ok (record { start = a; end = b }) → BodyAt s at a b
 chunk_body s at a b bs e = body_came s at a b _ bs (chunk_there s at a b e) refl e
 
 -- ---- a track
 
-abbrev T : List ℕ → ℕ → TrackStep
+abbrev T : List ℕ → ℕ → Result TrackRead (ℕ × ℕ)
 T s at = track_step (length s) (track_padding at (drop at s)) (read_track at (drop at s))
 
-pub track_bad_chunk : (s : List ℕ) (at k p : ℕ) → C s at ≡ BadChunk k p → BadTrack k p ≡ T s at
+pub track_bad_chunk : (s : List ℕ) (at k p : ℕ) → C s at ≡ Err (k, p) → Err (k, p) ≡ T s at
 unfolding read_track and_then track_step
 track_bad_chunk s at k p e = rw (chunk_bad (length s) k p _ e)
 
-walk_fault : (n k p x z : ℕ) (m : Outcome (List Event)) (l : List ℕ) → walk_step 0 0 x m ≡ Fault k p → BadTrack k p ≡ track_step n z (and_then m (λ es r. ok es l))
+walk_fault : (n k p x z : ℕ) (m : Outcome (List Event)) (l : List ℕ) → walk_step 0 0 x m ≡ Err (k, p) → Err (k, p) ≡ track_step n z (and_then m (λ es r. ok es l))
 unfolding walk_step track_step and_then
 walk_fault n k p x y (ok es r) l e = let w : ◌≡◌ {A = ℕ} 0 1 = cc in absurd (omega arith)
-walk_fault n k p x y (refused j z) l e = let a : j ≡ k = cc in let b : z ≡ p = cc in cc
+walk_fault n k p x y (refused j z) l e = ap Err (sym (err_is e))
 
-walk_whole : (n c x y : ℕ) (t : Time) (m : Outcome (List Event)) (l : List ℕ) → walk_step 0 0 x m ≡ Whole t c y → Track t c (n - length l) y ≡ track_step n x (and_then m (λ es r. ok es l))
+walk_whole : (n c x y : ℕ) (t : Time) (m : Outcome (List Event)) (l : List ℕ) → walk_step 0 0 x m ≡ Ok (record { time = t; events = c; padding = y }) → Ok (record { time = t; events = c; next = (n - length l); padding = y }) ≡ track_step n x (and_then m (λ es r. ok es l))
 unfolding walk_step track_step and_then
 walk_whole n c x y t (ok es r) l e =
-    let a : record { 0 = last_time 0 es } ≡ t = cc in
-    let b : 0 + length es ≡ c = cc in
-    let d : x ≡ y = cc in
-    ap₂ (λ u v. Track u v (n - length l) y) (sym a) (omega arith) ∙ ap (Track (record { 0 = last_time 0 es }) (length es) (n - length l)) (sym d)
+    let same = ok_is e in
+    let a : record { 0 = last_time 0 es } ≡ t = ap (λ (w : Walked). w.time) same in
+    let b : 0 + length es ≡ c = ap (λ (w : Walked). w.events) same in
+    let d : x ≡ y = ap (λ (w : Walked). w.padding) same in
+    ap₂ (λ u v. Ok (record { time = u; events = v; next = (n - length l); padding = y })) (sym a) (omega arith) ∙ ap (λ z. Ok (record { time = record { 0 = last_time 0 es }; events = length es; next = n - length l; padding = z })) (sym d)
 walk_whole n c x y t (refused j z) l e = let w : ◌≡◌ {A = ℕ} 0 1 = cc in absurd (omega arith)
 
-module _ (s : List ℕ) (at a b : ℕ) (bs : Bytes s) (body : C s at ≡ Body a b) where
+module _ (s : List ℕ) (at a b : ℕ) (bs : Bytes s) (body : C s at ≡ Ok (record { start = a; end = b })) where
   walked : read_track at (drop at s) ≡ and_then (read_all a 0 no_status (take (b - a) (drop a s))) (λ es r. ok es (drop b s))
   unfolding read_track and_then
   walked = let there = chunk_body s at a b bs body in rw (there.read, there.start)
 
-  pub track_fault : (x k p : ℕ) → Fault k p ≡ walk_step 0 0 x (read_all a 0 no_status (take (b - a) (drop a s))) → BadTrack k p ≡ T s at
+  pub track_fault : (x k p : ℕ) → Err (k, p) ≡ walk_step 0 0 x (read_all a 0 no_status (take (b - a) (drop a s))) → Err (k, p) ≡ T s at
   track_fault x k p e = rw walked (walk_fault (length s) k p x _ _ _ (sym e))
 
   body_padding : track_padding at (drop at s) ≡ all_padding 0 no_status (take (b - a) (drop a s))
   unfolding track_padding value_or and_then
   body_padding = let there = chunk_body s at a b bs body in rw there.read refl
 
-  pub track_whole : (y : ℕ) (t : Time) (c : ℕ) → Whole t c y ≡ walk_step 0 0 (all_padding 0 no_status (take (b - a) (drop a s))) (read_all a 0 no_status (take (b - a) (drop a s))) → Track t c b y ≡ T s at
+  pub track_whole : (y : ℕ) (t : Time) (c : ℕ) → Ok (record { time = t; events = c; padding = y }) ≡ walk_step 0 0 (all_padding 0 no_status (take (b - a) (drop a s))) (read_all a 0 no_status (take (b - a) (drop a s))) → Ok (record { time = t; events = c; next = b; padding = y }) ≡ T s at
   track_whole y t c e =
       let there = chunk_body s at a b bs body in
-      rw (walked, body_padding) (ap (λ z. Track t c z y) (sym (place_back s b there.inside)) ∙ walk_whole (length s) c _ y t _ _ (sym e))
+      rw (walked, body_padding) (ap (λ z. Ok (record { time = t; events = c; next = z; padding = y })) (sym (place_back s b there.inside)) ∙ walk_whole (length s) c _ y t _ _ (sym e))
 
 -- ---- the tracks
 
@@ -212,54 +215,55 @@ unfolding tracks_step and_then
 tracks_cons n t (ok ts q) = refl
 tracks_cons n t (refused k p) = refl
 
-pub track_bad : (n x k p : ℕ) (m : Outcome (List Event)) → track_step n x m ≡ BadTrack k p → m ≡ refused k p
+pub track_bad : (n x k p : ℕ) (m : Outcome (List Event)) → track_step n x m ≡ Err (k, p) → m ≡ refused k p
 unfolding track_step
 track_bad n x k p (ok es r) e = let w : ◌≡◌ {A = ℕ} 0 1 = cc in absurd (omega arith)
-track_bad n x k p (refused j z) e = let a : j ≡ k = cc in let b : z ≡ p = cc in cc
+track_bad n x k p (refused j z) e = same_refusal j z k p e
 
 -- the track that the code was given
-track_came : {X : Type 0} (s : List ℕ) (at : ℕ) (t : Time) (c q x y : ℕ) (m : Outcome (List Event)) → Bytes s → at ≤ length s → read_track at (drop at s) ≡ m → track_step (length s) x m ≡ Track t c q y
+track_came : {X : Type 0} (s : List ℕ) (at : ℕ) (t : Time) (c q x y : ℕ) (m : Outcome (List Event)) → Bytes s → at ≤ length s → read_track at (drop at s) ≡ m → track_step (length s) x m ≡ Ok (record { time = t; events = c; next = q; padding = y })
     → ((es : List Event) → read_track at (drop at s) ≡ ok es (drop q s) → at ≤ q → q ≤ length s → record { 0 = last_time 0 es } ≡ t → length es ≡ c → X) → X
 unfolding track_step
 track_came s at t c q x y (ok es r) bs h come e k =
     let laid = track_sound at (drop at s) es r (bytes_drop s at bs) come in
     let front : List ℕ = lay_chunks laid.spelling.before ++ lay_track es laid.spelling.events in
     let back : drop (length s - length r) s ≡ r = place s front r at (laid.bytes ∙ sym (append_assoc (lay_chunks laid.spelling.before) (lay_track es laid.spelling.events) r)) in
-    let pq : length s - length r ≡ q = cc in
-    let pt : record { 0 = last_time 0 es } ≡ t = cc in
-    let pc : length es ≡ c = cc in
+    let same = ok_is e in
+    let pq : length s - length r ≡ q = ap (λ (w : TrackRead). w.next) same in
+    let pt : record { 0 = last_time 0 es } ≡ t = ap (λ (w : TrackRead). w.time) same in
+    let pc : length es ≡ c = ap (λ (w : TrackRead). w.events) same in
     let rest : r ≡ drop q s = cc in
     let size = track_size (drop at s) es r laid in
     k es (come ∙ ap (ok es) rest) (omega (arith, length-drop at s)) (omega arith) pt pc
 track_came s at t c q x y (refused n z) bs h come e k = let w : ◌≡◌ {A = ℕ} 0 1 = cc in absurd (omega arith)
 
-pub track_found : {X : Type 0} {y : ℕ} (s : List ℕ) (at : ℕ) (t : Time) (c q : ℕ) → Bytes s → at ≤ length s → T s at ≡ Track t c q y
+pub track_found : {X : Type 0} {y : ℕ} (s : List ℕ) (at : ℕ) (t : Time) (c q : ℕ) → Bytes s → at ≤ length s → T s at ≡ Ok (record { time = t; events = c; next = q; padding = y })
     → ((es : List Event) → read_track at (drop at s) ≡ ok es (drop q s) → at ≤ q → q ≤ length s → record { 0 = last_time 0 es } ≡ t → length es ≡ c → X) → X
 track_found {X} {y} s at t c q bs h e k = track_came s at t c q _ y _ bs h refl e k
 
-padding_of : (n x c q y : ℕ) (t : Time) (m : Outcome (List Event)) → track_step n x m ≡ Track t c q y → x ≡ y
+padding_of : (n x c q y : ℕ) (t : Time) (m : Outcome (List Event)) → track_step n x m ≡ Ok (record { time = t; events = c; next = q; padding = y }) → x ≡ y
 unfolding track_step
-padding_of n x c q y t (ok es r) e = cc
+padding_of n x c q y t (ok es r) e = ap (λ (w : TrackRead). w.padding) (ok_is e)
 padding_of n x c q y t (refused k p) e = let w : ◌≡◌ {A = ℕ} 0 1 = cc in absurd (omega arith)
 
 -- the sum that came with it
-pub track_padding_lem : {t : Time} {c q y : ℕ} (s : List ℕ) (at : ℕ) → T s at ≡ Track t c q y → track_padding at (drop at s) ≡ y
+pub track_padding_lem : {t : Time} {c q y : ℕ} (s : List ℕ) (at : ℕ) → T s at ≡ Ok (record { time = t; events = c; next = q; padding = y }) → track_padding at (drop at s) ≡ y
 track_padding_lem {t} {c} {q} {y} s at e = padding_of (length s) _ c q y t _ e
 
-abbrev pub Tracks : List ℕ → ℕ → ℕ → TracksStep
+abbrev pub Tracks : List ℕ → ℕ → ℕ → Result ℕ (ℕ × ℕ)
 Tracks s left at = tracks_step (length s) (read_tracks left at (drop at s))
 
-pub tracks_none : (s : List ℕ) (left at : ℕ) → left ≤ 0 → at ≤ length s → Tracks s left at ≡ Next at
+pub tracks_none : (s : List ℕ) (left at : ℕ) → left ≤ 0 → at ≤ length s → Tracks s left at ≡ Ok at
 unfolding read_tracks tracks_step
-tracks_none s zero at z h = ap Next (place_back s at h)
+tracks_none s zero at z h = ap Ok (place_back s at h)
 tracks_none s (suc n) at z h = absurd (omega arith)
 
-pub tracks_bad : (s : List ℕ) (left at k p : ℕ) → 0 < left → T s at ≡ BadTrack k p → Tracks s left at ≡ BadTracks k p
+pub tracks_bad : (s : List ℕ) (left at k p : ℕ) → 0 < left → T s at ≡ Err (k, p) → Tracks s left at ≡ Err (k, p)
 unfolding read_tracks tracks_step and_then
 tracks_bad s zero at k p z e = absurd (omega arith)
 tracks_bad s (suc n) at k p z e = simp (track_bad (length s) _ k p (read_track at (drop at s)) e)
 
-pub tracks_next : {y : ℕ} (s : List ℕ) (left at : ℕ) (t : Time) (c q : ℕ) → 0 < left → Bytes s → at ≤ length s → T s at ≡ Track t c q y
+pub tracks_next : {y : ℕ} (s : List ℕ) (left at : ℕ) (t : Time) (c q : ℕ) → 0 < left → Bytes s → at ≤ length s → T s at ≡ Ok (record { time = t; events = c; next = q; padding = y })
     → (Tracks s left at ≡ Tracks s (left - 1) q) × (q ≤ length s)
 unfolding read_tracks and_then
 tracks_next s zero at t c q z bs h e = absurd (omega arith)

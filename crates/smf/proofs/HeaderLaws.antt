@@ -1,4 +1,6 @@
 -- The header as the code reads it: one law for each of its answers.
+use Rattle.std.specs.Prelude.{Result, Ok, Err}
+use Rattle.smf.specs.declared.HeaderRead.{HeaderRead}
 use mathlib.Core.Path.{◌≡◌, sym, ap, ◌∙◌}
 use Prim.Native.Nat.{ℕ, ◌+◌, ◌-◌, ◌<◌, ◌≤◌}
 use mathlib.Core.Bool.{true, false}
@@ -21,8 +23,6 @@ use Rattle.smf.specs.Division.{division_of, division_ok}
 use Rattle.smf.specs.Piece.{tracks_fit}
 use Rattle.smf.specs.Reader.{count_ok, read_header}
 use Rattle.smf.specs.Step.{division_step, header_step}
-use Rattle.smf.specs.declared.HeaderStep.{HeaderStep}
-use Rattle.smf.specs.declared.HeaderStep.TheVariants.{Fields, BadHeader}
 
 -- the number of k bytes at the place p, as the code reads it
 abbrev pub N : List ℕ → ℕ → ℕ → ℕ
@@ -33,10 +33,10 @@ number_there s k p h =
     let fit : k ≤ length (drop p s) = simp length-drop (omega arith) in
     number_at s p k h ∙ ap (λ d. ok (number d) (drop (p + k) s)) (take_from k (drop p s) fit)
 
-abbrev H : List ℕ → HeaderStep
+abbrev H : List ℕ → Result HeaderRead (ℕ × ℕ)
 H s = header_step (length s) (read_header s)
 
-pub head_short : (s : List ℕ) → length s < 14 → BadHeader 2 0 ≡ H s
+pub head_short : (s : List ℕ) → length s < 14 → Err (2, 0) ≡ H s
 unfolding read_header check header_step
 head_short s h = rw (lt-leb 14 (length s) h)
 
@@ -55,7 +55,7 @@ module _ (s : List ℕ) (h : 14 ≤ length s) where
       check_eq 2 0 _ (le-leb 14 (length s) h) ∙ simp (q0, q1, q2, q3, q4)
 
   module _ (x0 : ℕ) (e0 : x0 ≡ N s 4 0) where
-    pub head_tag : (x0 ≡ header_tag → ⊥) → BadHeader 3 0 ≡ H s
+    pub head_tag : (x0 ≡ header_tag → ⊥) → Err (3, 0) ≡ H s
     unfolding check header_step
     head_tag n = simp (chain, ← e0, ne_eqb x0 header_tag n)
 
@@ -63,7 +63,7 @@ module _ (s : List ℕ) (h : 14 ≤ length s) where
       y0 : eqb (N s 4 0) header_tag ≡ true
       y0 = eq-eqb (N s 4 0) header_tag (sym e0 ∙ t0)
 
-      pub head_size : x1 < 6 → BadHeader 3 4 ≡ H s
+      pub head_size : x1 < 6 → Err (3, 4) ≡ H s
       unfolding check header_step
       head_size n = simp (chain, y0, ← e1, lt-leb 6 x1 n)
 
@@ -72,7 +72,7 @@ module _ (s : List ℕ) (h : 14 ≤ length s) where
         long = rw (← e1) (le-leb 6 x1 t1)
 
         -- "2 at 0 for a header past the end"
-        pub head_past : length s - 8 < x1 → BadHeader 2 0 ≡ H s
+        pub head_past : length s - 8 < x1 → Err (2, 0) ≡ H s
         unfolding check header_step
         head_past n =
             let few : length (drop 8 s) < x1 = simp length-drop n in
@@ -83,7 +83,7 @@ module _ (s : List ℕ) (h : 14 ≤ length s) where
           whole : leb (N s 4 4) (length (drop 8 s)) ≡ true
           whole = let fit : x1 ≤ length (drop 8 s) = simp length-drop (omega arith) in rw (← e1) (le-leb x1 (length (drop 8 s)) fit)
 
-          pub head_format : 2 < x2 → BadHeader 3 8 ≡ H s
+          pub head_format : 2 < x2 → Err (3, 8) ≡ H s
           unfolding check header_step
           head_format n = simp (chain, y0, long, whole, ← e2, lt-leb x2 2 n)
 
@@ -91,7 +91,7 @@ module _ (s : List ℕ) (h : 14 ≤ length s) where
             y2 : leb (N s 2 8) 2 ≡ true
             y2 = rw (← e2) (le-leb x2 2 t2)
 
-            pub head_count : count_ok x2 x3 ≡ false → BadHeader 3 10 ≡ H s
+            pub head_count : count_ok x2 x3 ≡ false → Err (3, 10) ≡ H s
             unfolding check header_step
             head_count n =
                 let z : count_ok (N s 2 8) (N s 2 10) ≡ false = rw (← e2, ← e3) n in
@@ -101,13 +101,13 @@ module _ (s : List ℕ) (h : 14 ≤ length s) where
               y3 : count_ok (N s 2 8) (N s 2 10) ≡ true
               y3 = rw (← e2, ← e3) t3
 
-              pub head_division : division_ok x4 ≡ false → BadHeader 3 12 ≡ H s
+              pub head_division : division_ok x4 ≡ false → Err (3, 12) ≡ H s
               unfolding check header_step
               head_division n =
                   let z : division_ok (N s 2 12) ≡ false = rw (← e4) n in
                   simp (chain, y0, long, whole, y2, y3, z)
 
-              pub head_fine : division_ok x4 ≡ true → Fields x2 x3 (division_step (division_of x4)) (8 + x1) ≡ H s
+              pub head_fine : division_ok x4 ≡ true → Ok (record { format = x2; count = x3; division = (division_step (division_of x4)); next = (8 + x1) }) ≡ H s
               unfolding check header_step
               head_fine n =
                   let z : division_ok (N s 2 12) ≡ true = rw (← e4) n in

@@ -1,3 +1,4 @@
+pub mod ToldLaws
 pub mod TrackLaws
 pub mod DivisionLaws
 pub mod PassedLaws

@@ -1,4 +1,5 @@
 -- Listing the tracks: the turns of its loop, and one law for each of its answers.
+use Rattle.std.specs.Prelude.{Ok, Err}
 use mathlib.Core.Path.{◌≡◌, refl, sym, ap, ap₂, ◌∙◌}
 use Prim.Native.Nat.{ℕ, zero, suc, ◌+◌, ◌-◌, ◌<◌, ◌≤◌}
 use mathlib.Core.Bool.{true, false}
@@ -21,8 +22,6 @@ use Rattle.smf.specs.Step.{header_step, last_time, track_step}
 use Rattle.smf.specs.Listing.{end_times, event_counts, has_room, list_answer, list_leaves, paddings_in}
 use Rattle.smf.specs.declared.Answer.{Answer}
 use Rattle.smf.specs.declared.Division.{Division}
-use Rattle.smf.specs.declared.HeaderStep.TheVariants.{Fields}
-use Rattle.smf.specs.declared.TrackStep.TheVariants.{Track, BadTrack}
 use Rattle.event.proofs.BytesLaws.{bytes_drop}
 use Rattle.event.proofs.PlaceLaws.{place_back}
 use Rattle.smf.proofs.FileLaws.{tracks_sound}
@@ -37,7 +36,7 @@ use Rattle.smf.proofs.VerdictLaws.{head_at}
 abbrev pub R : List ℕ → ℕ → ℕ → Outcome (List (List Event))
 R s left at = read_tracks left at (drop at s)
 
-pub list_bad : (s : List ℕ) (left at k p : ℕ) → 0 < left → track_step (length s) (track_padding at (drop at s)) (read_track at (drop at s)) ≡ BadTrack k p → Readable (R s left at) → ⊥
+pub list_bad : (s : List ℕ) (left at k p : ℕ) → 0 < left → track_step (length s) (track_padding at (drop at s)) (read_track at (drop at s)) ≡ Err (k, p) → Readable (R s left at) → ⊥
 unfolding read_tracks and_then Readable
 list_bad s zero at k p z e h = omega arith
 list_bad s (suc n) at k p z e h = rw (track_bad (length s) _ k p (read_track at (drop at s)) e) at h
@@ -50,7 +49,7 @@ pub record Listed (s : List ℕ) (left n at : ℕ) (t : Time) (c q y : ℕ) : Ty
   pub counts : event_counts (value_or [] (R s left at)) ≡ c ∷ event_counts (value_or [] (R s n q))
   pub paddings : tracks_padding left at (drop at s) ≡ y ∷ tracks_padding n q (drop q s)
 
-list_one : {y : ℕ} (s : List ℕ) (n at : ℕ) (t : Time) (c q : ℕ) → Bytes s → at ≤ length s → track_step (length s) (track_padding at (drop at s)) (read_track at (drop at s)) ≡ Track t c q y
+list_one : {y : ℕ} (s : List ℕ) (n at : ℕ) (t : Time) (c q : ℕ) → Bytes s → at ≤ length s → track_step (length s) (track_padding at (drop at s)) (read_track at (drop at s)) ≡ Ok (record { time = t; events = c; next = q; padding = y })
     → Readable (R s (suc n) at) → Listed s (suc n) n at t c q y
 unfolding read_tracks and_then end_times event_counts
 list_one s n at t c q bs h e w =
@@ -68,7 +67,7 @@ list_one s n at t c q bs h e w =
       paddings = padding_list n at (drop at s) es (drop q s) come ∙ ap₂ (λ x k. x ∷ tracks_padding n k (drop q s)) (track_padding_lem s at e) next;
     })
 
-pub list_next : {y : ℕ} (s : List ℕ) (left n at : ℕ) (t : Time) (c q : ℕ) → left ≡ suc n → Bytes s → at ≤ length s → track_step (length s) (track_padding at (drop at s)) (read_track at (drop at s)) ≡ Track t c q y
+pub list_next : {y : ℕ} (s : List ℕ) (left n at : ℕ) (t : Time) (c q : ℕ) → left ≡ suc n → Bytes s → at ≤ length s → track_step (length s) (track_padding at (drop at s)) (read_track at (drop at s)) ≡ Ok (record { time = t; events = c; next = q; padding = y })
     → Readable (R s left at) → Listed s left n at t c q y
 list_next s left n at t c q e bs h g w = rw e (list_one s n at t c q bs h g (rw e at w))
 
@@ -110,7 +109,7 @@ pub record Accepted (s : List ℕ) (b n : ℕ) : Type 0 where
   pub tracks : R s b n ≡ ok piece.tracks left
   pub count : length piece.tracks ≡ b
 
-pub accepted_piece : (s : List ℕ) (a b : ℕ) (d : Division) (n : ℕ) (p : Piece) (r : List ℕ) → Bytes s → header_step (length s) (read_header s) ≡ Fields a b d n → read_file s ≡ ok p r → Accepted s b n
+pub accepted_piece : (s : List ℕ) (a b : ℕ) (d : Division) (n : ℕ) (p : Piece) (r : List ℕ) → Bytes s → header_step (length s) (read_header s) ≡ Ok (record { format = a; count = b; division = d; next = n }) → read_file s ≡ ok p r → Accepted s b n
 unfolding read_file read_piece
 accepted_piece s a b d n p r bs e q =
     let there = head_at s a b d n bs e in
@@ -128,7 +127,7 @@ accepted_piece s a b d n p r bs e q =
     record { piece = p; rest = r; left = m; read = q; tracks = tracks ∙ ap (λ z. ok z m) (sym inPiece); count = ap length inPiece ∙ laid.count })))))
 
 -- the sums of the padding from where the header ends
-paddings_there : (s : List ℕ) (a b : ℕ) (d : Division) (n : ℕ) → Bytes s → header_step (length s) (read_header s) ≡ Fields a b d n → paddings s ≡ tracks_padding b n (drop n s)
+paddings_there : (s : List ℕ) (a b : ℕ) (d : Division) (n : ℕ) → Bytes s → header_step (length s) (read_header s) ≡ Ok (record { format = a; count = b; division = d; next = n }) → paddings s ≡ tracks_padding b n (drop n s)
 unfolding paddings value_or and_then
 paddings_there s a b d n bs e =
     let there = head_at s a b d n bs e in
@@ -180,7 +179,7 @@ module _ (s : List ℕ) (b n : ℕ) (there : Accepted s b n) where
         stored f old (f (value_or [] (R s b n))) (sym got) (ap length got ∙ same there.piece.tracks ∙ there.count) room
 
     -- the third list
-    pub fine_paddings : (a : ℕ) (d : Division) (old : List ℕ) → Bytes s → header_step (length s) (read_header s) ≡ Fields a b d n → b ≤ length old
+    pub fine_paddings : (a : ℕ) (d : Division) (old : List ℕ) → Bytes s → header_step (length s) (read_header s) ≡ Ok (record { format = a; count = b; division = d; next = n }) → b ≤ length old
         → sets old 0 (tracks_padding b n (drop n s)) ≡ list_leaves (paddings_in s) x y z (read_file s) old
     fine_paddings a d old bs e room =
         stored (paddings_in s) old (tracks_padding b n (drop n s)) (paddings_there s a b d n bs e) (paddings_count b n (drop n s) _ _ there.tracks) room

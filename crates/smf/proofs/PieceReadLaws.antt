@@ -1,4 +1,6 @@
 -- The piece read, by the answers of the header, the chunks and the events, is the piece that the reader gives.
+use Rattle.std.specs.Prelude.{Result, Ok, Err}
+use Rattle.smf.specs.declared.Chunk.{Chunk}
 use mathlib.Core.Path.{◌≡◌, refl, sym, ap, ap₂, ◌∙◌}
 use Prim.Native.Nat.{ℕ, zero, suc, ◌+◌, ◌-◌, ◌<◌, ◌≤◌}
 use mathlib.Core.Bool.{Bool, true, false}
@@ -23,8 +25,6 @@ use Rattle.smf.specs.Piece.{Piece}
 use Rattle.smf.specs.Reader.{read_events, read_all, read_chunk, read_track, read_tracks, read_header, read_behind, read_piece}
 use Rattle.smf.specs.Step.{division_step, header_step, chunk_step}
 use Rattle.smf.specs.PieceRead.{until_end, events_read, track_read, tracks_read, piece_from, piece_read}
-use Rattle.smf.specs.declared.ChunkStep.{ChunkStep}
-use Rattle.smf.specs.declared.ChunkStep.TheVariants.{Body, BadChunk}
 use Rattle.smf.proofs.DivisionLaws.{division_same}
 use Rattle.smf.proofs.TrackLaws.{go_sound}
 use Rattle.smf.proofs.PassedLaws.{chunk_sound}
@@ -81,10 +81,10 @@ track_is base body es q bs e = events_are (suc (length body)) (suc (length body)
 
 -- ---- the tracks
 
-none_read : (f : List ℕ) (c : ChunkStep) → tracks_read zero f c ≡ []
+none_read : (f : List ℕ) (c : Result Chunk (ℕ × ℕ)) → tracks_read zero f c ≡ []
 unfolding tracks_read
-none_read f (Body a b) = refl
-none_read f (BadChunk k p) = refl
+none_read f (Ok c) = refl
+none_read f (Err e) = refl
 
 -- a chunk that was read, by its places
 chunk_at : (f : List ℕ) (at : ℕ) (body l : List ℕ) → Bytes f → at ≤ length f → read_chunk at (drop at f) ≡ ok body l

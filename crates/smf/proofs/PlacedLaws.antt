@@ -1,5 +1,8 @@
 -- The placed events of a file that is accepted: they are its piece's events, and each is read at its place in the file itself, so that
 -- no part of the file need be cut out and no end be known.
+use Rattle.std.specs.Prelude.{Result, Ok, Err}
+use Rattle.event.specs.declared.EventRead.{EventRead}
+use Rattle.smf.specs.declared.Chunk.{Chunk}
 use mathlib.Core.Path.{◌≡◌, refl, sym, ap, ap₂, ◌∙◌, subst}
 use Prim.Native.Nat.{ℕ, zero, suc, ◌+◌, ◌-◌, ◌≤◌, ◌<◌}
 use mathlib.Core.Bool.{Bool, true, false}
@@ -17,8 +20,6 @@ use Rattle.event.specs.Padding.{event_padding}
 use Rattle.event.specs.Step.{event_step, end_of}
 use Rattle.event.specs.declared.Time.{Time}
 use Rattle.event.specs.declared.EventKind.{EventKind}
-use Rattle.event.specs.declared.EventStep.{EventStep}
-use Rattle.event.specs.declared.EventStep.TheVariants.{Read, Stop}
 use Rattle.event.proofs.ChoiceLaws.{by_test}
 use Rattle.event.proofs.BytesLaws.{bytes_drop, bytes_take}
 use Rattle.event.proofs.EventLaws.{event_read, event_sound}
@@ -30,9 +31,6 @@ use Rattle.smf.specs.Walk.{Placed, events_of, tracks_of, walked_body, placed_of}
 use Rattle.smf.specs.PlacedFile.{found_track, placed_tracks, placed_after, placed_file}
 use Rattle.smf.specs.Code.Chain.{Link, Tail, Chain, placed_from}
 use Rattle.smf.specs.declared.Division.{Division}
-use Rattle.smf.specs.declared.ChunkStep.{ChunkStep}
-use Rattle.smf.specs.declared.ChunkStep.TheVariants.{Body, BadChunk}
-use Rattle.smf.specs.declared.HeaderStep.TheVariants.{Fields}
 use Rattle.smf.proofs.CameLaws.{Came, event_came}
 use Rattle.smf.proofs.ChunkLaws.{chunk_body}
 use Rattle.smf.proofs.ListLaws.{R, none_left}
@@ -102,25 +100,25 @@ module _ (f : List ℕ) (bs : Bytes f) (a b : ℕ) (order : a ≤ b) (end : b �
     pub chain : Chain f (a + at) t force es
     pub events : events_of es ≡ value_or [] (A Part at t force)
 
-  stands : (n at t force : ℕ) (x : EventStep) → length Part - at < n → at ≤ length Part → Readable (A Part at t force) → x ≡ event_step (length Part) (event_padding (drop at Part)) (read_event t force (drop at Part)) → Stands at t force (Met Part a at t force)
+  stands : (n at t force : ℕ) (x : Result EventRead ℕ) → length Part - at < n → at ≤ length Part → Readable (A Part at t force) → x ≡ event_step (length Part) (event_padding (drop at Part)) (read_event t force (drop at Part)) → Stands at t force (Met Part a at t force)
   unfolding Chain Tail
   stands zero at t force x fuel h good e = absurd (omega arith)
-  stands (suc n) at t force (Read u k q st padding) fuel h good e =
+  stands (suc n) at t force (Ok x) fuel h good e =
       let c = event_came Part at t force part_bytes h e refl in
-      let link = link_on at t force u k q st h c in
-      by_test (end_of k)
+      let link = link_on at t force x.time x.kind x.next x.status h c in
+      by_test (end_of x.kind)
       (λ last.
       rw (met_end a part_bytes c last)
       (record { chain = (link, rw (sym c.ends ∙ last) refl); events = sym (turn_end part_bytes c good last) }))
       (λ last.
       let next = turn_next part_bytes c good last in
-      let rest = stands n q u.0 st _ (omega (arith, c.later, c.inside)) c.inside next.0 refl in
+      let rest = stands n x.next x.time.0 x.status _ (omega (arith, c.later, c.inside)) c.inside next.0 refl in
       rw (met_next a part_bytes c last)
       (record {
         chain = (link, rw (sym c.ends ∙ last, c.time, c.status) rest.chain);
         events = ap (λ z. c.event ∷ z) rest.events ∙ sym next.1;
       }))
-  stands (suc n) at t force (Stop k) fuel h good e = absurd (turn_stop Part at t force part_bytes e refl good)
+  stands (suc n) at t force (Err k) fuel h good e = absurd (turn_stop Part at t force part_bytes e refl good)
 
 -- ---- the tracks of a file: so many from the place at on
 
@@ -133,7 +131,7 @@ pub record TrackPlaced (f : List ℕ) (left n at a b : ℕ) (es : List Placed) :
   pub order : a ≤ b
   pub inside : b ≤ length f
 
-placed_step : (f : List ℕ) (n at a b : ℕ) → Bytes f → at ≤ length f → chunk_step (length f) (read_chunk at (drop at f)) ≡ Body a b
+placed_step : (f : List ℕ) (n at a b : ℕ) → Bytes f → at ≤ length f → chunk_step (length f) (read_chunk at (drop at f)) ≡ Ok (record { start = a; end = b })
     → placed_from f (suc n) at ≡ placed_of (walked_body a (take (b - a) (drop a f))) ∷ placed_from f n b
 unfolding placed_tracks found_track
 placed_step f n at a b bs h e =
@@ -142,7 +140,7 @@ placed_step f n at a b bs h e =
     let begin : length f - length (drop b f) - length (take (b - a) (drop a f)) ≡ a = omega (arith, length-drop b f, size, there.inside, there.order) in
     rw (place_back f at h, there.read, begin) refl
 
-pub track_placed : (f : List ℕ) (left n at a b : ℕ) → left ≡ suc n → Bytes f → chunk_step (length f) (read_chunk at (drop at f)) ≡ Body a b → Readable (R f left at)
+pub track_placed : (f : List ℕ) (left n at a b : ℕ) → left ≡ suc n → Bytes f → chunk_step (length f) (read_chunk at (drop at f)) ≡ Ok (record { start = a; end = b }) → Readable (R f left at)
     → TrackPlaced f left n at a b (placed_of (walked_body a (take (b - a) (drop a f))))
 track_placed f left n at a b q bs e good =
     let there = chunk_body f at a b bs e in
@@ -161,12 +159,12 @@ track_placed f left n at a b q bs e good =
     })
 
 -- the events of the tracks are those that are read
-tracks_with : (f : List ℕ) (n at : ℕ) (x : ChunkStep) → Bytes f → x ≡ chunk_step (length f) (read_chunk at (drop at f)) → Readable (R f (suc n) at)
+tracks_with : (f : List ℕ) (n at : ℕ) (x : Result Chunk (ℕ × ℕ)) → Bytes f → x ≡ chunk_step (length f) (read_chunk at (drop at f)) → Readable (R f (suc n) at)
     → ((b : ℕ) → Readable (R f n b) → tracks_of (placed_from f n b) ≡ value_or [] (R f n b)) → tracks_of (placed_from f (suc n) at) ≡ value_or [] (R f (suc n) at)
-tracks_with f n at (Body a b) bs e good rest =
-    let m = track_placed f (suc n) n at a b refl bs (sym e) good in
-    ap tracks_of m.all ∙ ap₂ (λ x y. x ∷ y) m.events (rest b m.turn.rest) ∙ sym m.turn.all
-tracks_with f n at (BadChunk k p) bs e good rest = absurd (tracks_stop f (suc n) at k p (omega arith) (sym e) good)
+tracks_with f n at (Ok c) bs e good rest =
+    let m = track_placed f (suc n) n at c.start c.end refl bs (sym e) good in
+    ap tracks_of m.all ∙ ap₂ (λ x y. x ∷ y) m.events (rest c.end m.turn.rest) ∙ sym m.turn.all
+tracks_with f n at (Err (k, p)) bs e good rest = absurd (tracks_stop f (suc n) at k p (omega arith) (sym e) good)
 
 pub tracks_placed : (f : List ℕ) (n at : ℕ) → Bytes f → Readable (R f n at) → tracks_of (placed_from f n at) ≡ value_or [] (R f n at)
 unfolding placed_tracks
@@ -174,6 +172,6 @@ tracks_placed f zero at bs good = sym (none_left f zero at (omega arith))
 tracks_placed f (suc n) at bs good = tracks_with f n at _ bs refl good (λ b g. tracks_placed f n b bs g)
 
 -- and those of the file are those of the tracks that its header counts
-pub file_placed : (f : List ℕ) (a b : ℕ) (d : Division) (n : ℕ) → Bytes f → header_step (length f) (read_header f) ≡ Fields a b d n → placed_file f ≡ placed_from f b n
+pub file_placed : (f : List ℕ) (a b : ℕ) (d : Division) (n : ℕ) → Bytes f → header_step (length f) (read_header f) ≡ Ok (record { format = a; count = b; division = d; next = n }) → placed_file f ≡ placed_from f b n
 unfolding placed_file placed_after
 file_placed f a b d n bs e = let there = head_at f a b d n bs e in rw (there.read, there.same_count) refl

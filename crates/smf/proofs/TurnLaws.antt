@@ -1,4 +1,6 @@
 -- A turn of a loop over a file's own events or tracks, for a file that is known to be accepted: what was read, what is left.
+use Rattle.std.specs.Prelude.{Result, Ok, Err}
+use Rattle.event.specs.declared.EventRead.{EventRead}
 use mathlib.Core.Path.{◌≡◌, refl, sym, ap, subst, ◌∙◌}
 use Prim.Native.Nat.{ℕ, zero, suc, ◌+◌, ◌-◌, ◌<◌}
 use mathlib.Core.Bool.{true, false}
@@ -14,13 +16,10 @@ use Rattle.event.specs.Padding.{event_padding}
 use Rattle.event.specs.Step.{end_of, event_step}
 use Rattle.event.specs.declared.Time.{Time}
 use Rattle.event.specs.declared.EventKind.{EventKind}
-use Rattle.event.specs.declared.EventStep.{EventStep}
-use Rattle.event.specs.declared.EventStep.TheVariants.{Stop}
 use Rattle.event.proofs.BytesLaws.{bytes_drop, bytes_take}
 use Rattle.event.proofs.OutcomeLaws.{readable_ok, cons_readable, cons_value}
 use Rattle.smf.specs.Reader.{ended, read_all, read_chunk, read_track, read_tracks}
 use Rattle.smf.specs.Step.{chunk_step}
-use Rattle.smf.specs.declared.ChunkStep.TheVariants.{Body, BadChunk}
 use Rattle.smf.proofs.TrackLaws.{all_read, EventsLaid, events_sound}
 use Rattle.smf.proofs.FileLaws.{TracksLaid, tracks_sound}
 use Rattle.smf.proofs.CameLaws.{Came, came_stop, came_next, came_end}
@@ -32,7 +31,7 @@ use Rattle.smf.proofs.ListLaws.{R}
 abbrev pub A : List ℕ → ℕ → ℕ → ℕ → Outcome (List Event)
 A s at t f = read_all at t f (drop at s)
 
-pub turn_stop : {x : EventStep} {k : ℕ} (s : List ℕ) (at t f : ℕ) → Bytes s → x ≡ event_step (length s) (event_padding (drop at s)) (read_event t f (drop at s)) → x ≡ Stop k → Readable (A s at t f) → ⊥
+pub turn_stop : {x : Result EventRead ℕ} {k : ℕ} (s : List ℕ) (at t f : ℕ) → Bytes s → x ≡ event_step (length s) (event_padding (drop at s)) (read_event t f (drop at s)) → x ≡ Err k → Readable (A s at t f) → ⊥
 unfolding Readable
 turn_stop s at t f bs e given h = rw (came_stop s at t f at bs e given) at h
 
@@ -65,7 +64,7 @@ events_laid s at t f bs h =
 
 -- ---- tracks: so many from the place at on
 
-pub tracks_stop : (s : List ℕ) (left at k p : ℕ) → 0 < left → chunk_step (length s) (read_chunk at (drop at s)) ≡ BadChunk k p → Readable (R s left at) → ⊥
+pub tracks_stop : (s : List ℕ) (left at k p : ℕ) → 0 < left → chunk_step (length s) (read_chunk at (drop at s)) ≡ Err (k, p) → Readable (R s left at) → ⊥
 unfolding read_tracks read_track and_then Readable
 tracks_stop s zero at k p z e h = omega arith
 tracks_stop s (suc n) at k p z e h = rw (chunk_bad (length s) k p (read_chunk at (drop at s)) e) at h
@@ -102,12 +101,12 @@ turn_with s n at a b (ok es q) bs e step next good =
     record { body = rw there tt; rest = rest; all = all ∙ ap (λ z. value_or [] z ∷ value_or [] (R s n b)) (sym there) }
 turn_with s n at a b (refused k p) bs e step next good = absurd (rw step at good)
 
-turn_one : (s : List ℕ) (n at a b : ℕ) → Bytes s → chunk_step (length s) (read_chunk at (drop at s)) ≡ Body a b → Readable (R s (suc n) at) → TrackTurn s (suc n) n at a b
+turn_one : (s : List ℕ) (n at a b : ℕ) → Bytes s → chunk_step (length s) (read_chunk at (drop at s)) ≡ Ok (record { start = a; end = b }) → Readable (R s (suc n) at) → TrackTurn s (suc n) n at a b
 unfolding read_tracks read_track and_then
 turn_one s n at a b bs e good =
     let there = chunk_body s at a b bs e in
     let next : at + (length (drop at s) - length (drop b s)) ≡ b = simp length-drop (omega (arith, there.begins, there.order, there.inside)) in
     turn_with s n at a b _ (bytes_take (drop a s) (b - a) (bytes_drop s a bs)) refl (rw (there.read, there.start) refl) next good
 
-pub turn_track : (s : List ℕ) (left n at a b : ℕ) → left ≡ suc n → Bytes s → chunk_step (length s) (read_chunk at (drop at s)) ≡ Body a b → Readable (R s left at) → TrackTurn s left n at a b
+pub turn_track : (s : List ℕ) (left n at a b : ℕ) → left ≡ suc n → Bytes s → chunk_step (length s) (read_chunk at (drop at s)) ≡ Ok (record { start = a; end = b }) → Readable (R s left at) → TrackTurn s left n at a b
 turn_track s left n at a b q bs e good = rw q (turn_one s n at a b bs e (rw q at good))

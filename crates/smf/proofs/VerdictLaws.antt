@@ -1,4 +1,8 @@
 -- The verdict on a file: one law for each answer of check.
+use Rattle.event.proofs.PassedLaws.{ok_is}
+use Rattle.smf.proofs.ToldLaws.{same_refusal}
+use Rattle.smf.specs.declared.HeaderRead.{HeaderRead}
+use Rattle.std.specs.Prelude.{Ok, Err}
 use mathlib.Core.Path.{◌≡◌, refl, sym, ap, ◌∙◌}
 use Prim.Native.Nat.{ℕ, zero, suc, ◌+◌, ◌-◌, ◌<◌, ◌≤◌}
 use mathlib.Core.Bool.{not}
@@ -22,8 +26,6 @@ use Rattle.smf.specs.Answer.{refusal, success, verdict}
 use Rattle.smf.specs.declared.Answer.{Answer}
 use Rattle.smf.specs.Step.{header_step, tracks_step}
 use Rattle.smf.specs.declared.Division.{Division}
-use Rattle.smf.specs.declared.HeaderStep.TheVariants.{Fields, BadHeader}
-use Rattle.smf.specs.declared.TracksStep.TheVariants.{Next, BadTracks}
 use Rattle.smf.proofs.PassedLaws.{head_sound, pass_step, pass_none}
 use Rattle.smf.proofs.FileLaws.{header_sound, header_size, header_rest, tracks_sound}
 use Rattle.smf.proofs.RefusalLaws.{head_size}
@@ -32,10 +34,10 @@ use Rattle.smf.proofs.ChunkLaws.{head_there}
 
 -- ---- what the code was given, as the readers' outcomes
 
-pub head_bad : (n k p : ℕ) (m : Outcome Header) → header_step n m ≡ BadHeader k p → m ≡ refused k p
+pub head_bad : (n k p : ℕ) (m : Outcome Header) → header_step n m ≡ Err (k, p) → m ≡ refused k p
 unfolding header_step
 head_bad n k p (ok h r) e = let w : ◌≡◌ {A = ℕ} 0 1 = cc in absurd (omega arith)
-head_bad n k p (refused j z) e = let a : j ≡ k = cc in let b : z ≡ p = cc in cc
+head_bad n k p (refused j z) e = same_refusal j z k p e
 
 -- the header that was read, and the place after it
 pub record HeadAt (s : List ℕ) (count next : ℕ) : Type 0 where
@@ -44,7 +46,7 @@ pub record HeadAt (s : List ℕ) (count next : ℕ) : Type 0 where
   pub same_count : header.count ≡ count
   pub inside : next ≤ length s
 
-head_came : (s : List ℕ) (a b : ℕ) (d : Division) (n : ℕ) (m : Outcome Header) → Bytes s → read_header s ≡ m → header_step (length s) m ≡ Fields a b d n → HeadAt s b n
+head_came : (s : List ℕ) (a b : ℕ) (d : Division) (n : ℕ) (m : Outcome Header) → Bytes s → read_header s ≡ m → header_step (length s) m ≡ Ok (record { format = a; count = b; division = d; next = n }) → HeadAt s b n
 unfolding header_step
 head_came s a b d n (ok h r) bs come e =
     let laid = header_sound s h r bs come in
@@ -52,25 +54,26 @@ head_came s a b d n (ok h r) bs come e =
     let size : length s ≡ 14 + length x + length r = ap length laid.bytes ∙ header_size h.format h.count h.division x r in
     let count : length s - length r ≡ 14 + length x = omega arith in
     let back : drop (length s - length r) s ≡ r = ap (λ k. drop k s) count ∙ ap (drop (14 + length x)) laid.bytes ∙ header_rest h.format h.count h.division x r in
-    let pn : length s - length r ≡ n = cc in
+    let same = ok_is e in
+    let pn : length s - length r ≡ n = ap (λ (z : HeaderRead). z.next) same in
     let rest : r ≡ drop n s = cc in
     record {
       header = h;
       read = come ∙ ap (ok h) rest;
-      same_count = cc;
+      same_count = ap (λ (z : HeaderRead). z.count) same;
       inside = omega arith;
     }
 head_came s a b d n (refused k z) bs come e = let w : ◌≡◌ {A = ℕ} 0 1 = cc in absurd (omega arith)
 
-pub head_at : (s : List ℕ) (a b : ℕ) (d : Division) (n : ℕ) → Bytes s → header_step (length s) (read_header s) ≡ Fields a b d n → HeadAt s b n
+pub head_at : (s : List ℕ) (a b : ℕ) (d : Division) (n : ℕ) → Bytes s → header_step (length s) (read_header s) ≡ Ok (record { format = a; count = b; division = d; next = n }) → HeadAt s b n
 head_at s a b d n bs e = head_came s a b d n _ bs refl e
 
-tracks_bad : (n k p : ℕ) (m : Outcome (List (List Event))) → tracks_step n m ≡ BadTracks k p → m ≡ refused k p
+tracks_bad : (n k p : ℕ) (m : Outcome (List (List Event))) → tracks_step n m ≡ Err (k, p) → m ≡ refused k p
 unfolding tracks_step
 tracks_bad n k p (ok ts r) e = let w : ◌≡◌ {A = ℕ} 0 1 = cc in absurd (omega arith)
-tracks_bad n k p (refused j z) e = let a : j ≡ k = cc in let b : z ≡ p = cc in cc
+tracks_bad n k p (refused j z) e = same_refusal j z k p e
 
-tracks_came : {X : Type 0} (s : List ℕ) (n at q : ℕ) (m : Outcome (List (List Event))) → Bytes s → read_tracks n at (drop at s) ≡ m → tracks_step (length s) m ≡ Next q
+tracks_came : {X : Type 0} (s : List ℕ) (n at q : ℕ) (m : Outcome (List (List Event))) → Bytes s → read_tracks n at (drop at s) ≡ m → tracks_step (length s) m ≡ Ok q
     → ((ts : List (List Event)) → read_tracks n at (drop at s) ≡ ok ts (drop q s) → length s - length (drop q s) ≡ q → X) → X
 unfolding tracks_step
 tracks_came s n at q (ok ts r) bs come e k =
@@ -98,11 +101,11 @@ module _ (s : List ℕ) (h : length s ≤ file_limit) where
   unfolding read_file
   short = check_eq 1 0 _ (le-leb (length s) file_limit h)
 
-  pub file_head : (k p : ℕ) → header_step (length s) (read_header s) ≡ BadHeader k p → refusal k p ≡ verdict (read_file s)
+  pub file_head : (k p : ℕ) → header_step (length s) (read_header s) ≡ Err (k, p) → refusal k p ≡ verdict (read_file s)
   unfolding read_piece and_then verdict
   file_head k p e = rw (short, head_bad (length s) k p _ e)
 
-  module _ (bs : Bytes s) (a b : ℕ) (d : Division) (n : ℕ) (e : header_step (length s) (read_header s) ≡ Fields a b d n) where
+  module _ (bs : Bytes s) (a b : ℕ) (d : Division) (n : ℕ) (e : header_step (length s) (read_header s) ≡ Ok (record { format = a; count = b; division = d; next = n })) where
     -- the file from its tracks on
     onward : {X : Type 0}
         → ((f : List (List Event) → Piece) → read_file s ≡ and_then (read_tracks b n (drop n s)) (λ ts r. and_then (read_behind (length s - length r) r) (λ cs q. ok (f ts) q)) → X) → X
@@ -113,11 +116,11 @@ module _ (s : List ℕ) (h : length s ≤ file_limit) where
         k (λ ts. record { format = head.format; division = head.division; tracks = ts })
         (rw (short, there.read, there.same_count, place_back s n there.inside))
 
-    pub file_tracks : (k p : ℕ) → tracks_step (length s) (read_tracks b n (drop n s)) ≡ BadTracks k p → refusal k p ≡ verdict (read_file s)
+    pub file_tracks : (k p : ℕ) → tracks_step (length s) (read_tracks b n (drop n s)) ≡ Err (k, p) → refusal k p ≡ verdict (read_file s)
     unfolding and_then verdict
     file_tracks k p t = onward (λ f whole. rw (whole, tracks_bad (length s) k p _ t))
 
-    pub file_behind : (q : ℕ) → tracks_step (length s) (read_tracks b n (drop n s)) ≡ Next q → verdict (read_behind q (drop q s)) ≡ verdict (read_file s)
+    pub file_behind : (q : ℕ) → tracks_step (length s) (read_tracks b n (drop n s)) ≡ Ok q → verdict (read_behind q (drop q s)) ≡ verdict (read_file s)
     unfolding and_then
     file_behind q t = onward (λ f whole. tracks_came s b n q _ bs refl t (λ ts here at. rw (whole, here, at) (sym (behind_is (f ts) (read_behind q (drop q s))))))
 

@@ -1,7 +1,9 @@
 -- "An answer is number, place and length."
-use Rattle.std.specs.Prelude.{ℕ}
+use Rattle.std.specs.Prelude.{Result, Ok, Err, ℕ}
 use Rattle.event.specs.Outcome.{Outcome, ok, refused}
+use Rattle.event.specs.Refusal.{number_of}
 use Rattle.smf.specs.declared.Answer.{Answer}
+use Rattle.smf.specs.declared.Refused.{Refused}
 
 -- "Success: 0, place 0, the length written"
 abbrev pub success : ℕ → Answer
@@ -19,3 +21,8 @@ room_needed n = record { number = 14; place = 0; length = n }
 unfoldable pub verdict : {A : Type 0} → Outcome A → Answer
 verdict (ok x r) = success 0
 verdict (refused n p) = refusal n p
+
+-- the answer that a check gives
+abbrev pub answered : Result (Unit {0}) Refused → Answer
+answered (Ok u) = success 0
+answered (Err r) = refusal (number_of r.why) r.place

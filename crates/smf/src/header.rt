@@ -2,11 +2,11 @@
 ghost use Rattle.std.specs.Prelude.{◌≡◌, ◌≤◌, length};
 ghost use Rattle.smf.specs.Division.{LawfulDivision, bits, division_of, division_ok};
 ghost use Rattle.smf.specs.Reader.{count_ok, read_header};
-ghost use Rattle.smf.specs.Step.{division_step, division_from, header_step};
-ghost use Rattle.smf.specs.declared.HeaderStep.TheVariants.{BadHeader};
+ghost use Rattle.smf.specs.Step.{division_step, division_from, header_step, told};
 
-use super::{Division, HEADER_TAG, HeaderStep};
-use event::number::{four_byte_number, two_byte_number};
+use super::{Division, HEADER_TAG, HeaderRead, Refused, refuse};
+use event::number::big_endian;
+use event::refusal::Refusal;
 
 // The most pulses to a quarter note; above it stand the frames, whose high byte is negative.
 const MOST_PULSES: u32 = 32767;
@@ -61,47 +61,40 @@ pub fn division_bits(division: Division) -> u32
     }
 }
 
-fn bad(number: u8, place: usize) -> HeaderStep
-    ensures { result ≡ BadHeader number place }
-{
-    HeaderStep::BadHeader { number, place }
-}
-
-pub fn read_header(file: &[u8]) -> HeaderStep
-    ensures { result ≡ header_step (length file.now) (read_header file.now) }
+pub fn read_header(file: &[u8]) -> Result<HeaderRead, Refused>
+    ensures { told result ≡ header_step (length file.now) (read_header file.now) }
 {
     if file.len() < 14 {
-        return bad(2, 0);
+        return refuse(Refusal::FileCutShort, 0);
     }
-    if four_byte_number(file, 0) != HEADER_TAG {
-        return bad(3, 0);
+    if big_endian::<4>(file, 0) != HEADER_TAG {
+        return refuse(Refusal::BadHeader, 0);
     }
-    let size = four_byte_number(file, 4);
+    let size = big_endian::<4>(file, 4);
     let too_short = size < 6;
     if too_short {
-        return bad(3, 4);
+        return refuse(Refusal::BadHeader, 4);
     }
     let len = size as usize;
     if file.len() - 8 < len {
-        return bad(2, 0);
+        return refuse(Refusal::FileCutShort, 0);
     }
-    let format = two_byte_number(file, 8);
+    let format = big_endian::<2>(file, 8);
     if 2 < format {
-        return bad(3, 8);
+        return refuse(Refusal::BadHeader, 8);
     }
-    let count = two_byte_number(file, 10);
-    if count_ok(format, count) {
-        let bits = two_byte_number(file, 12);
-        if division_ok(bits) {
-            let division = division_of(bits);
-            return HeaderStep::Fields {
-                format,
-                count,
-                division,
-                next: 8 + len,
-            };
-        }
-        return bad(3, 12);
+    let count = big_endian::<2>(file, 10);
+    if !count_ok(format, count) {
+        return refuse(Refusal::BadHeader, 10);
     }
-    bad(3, 10)
+    let bits = big_endian::<2>(file, 12);
+    if !division_ok(bits) {
+        return refuse(Refusal::BadHeader, 12);
+    }
+    Ok(HeaderRead {
+        format,
+        count,
+        division: division_of(bits),
+        next: 8 + len,
+    })
 }

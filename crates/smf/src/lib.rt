@@ -2,7 +2,10 @@
 #![tactic(auto)]
 
 ghost use Rattle.std.specs.Prelude.{◌≡◌};
+ghost use Rattle.event.specs.Refusal.{number_of};
 ghost use Rattle.smf.specs.Answer.{success, refusal, room_needed};
+
+use event::refusal::Refusal;
 
 pub mod header; // header.rt: the header, and a division's 16 bits
 pub mod track; // track.rt: a track's chunk and its events
@@ -54,6 +57,27 @@ impl Answer {
     }
 }
 
+// Why a file is refused, and at which place of it.
+#[derive(Clone, Copy)]
+pub struct Refused {
+    pub why: Refusal,
+    pub place: usize,
+}
+
+impl Refused {
+    pub fn answer(self) -> Answer
+        ensures { result ≡ refusal (number_of self.why) self.place }
+    {
+        Answer::refusal(self.why.number(), self.place)
+    }
+}
+
+fn refuse<T>(why: Refusal, place: usize) -> Result<T, Refused>
+    ensures { result ≡ Err (record { why = why; place = place }) }
+{
+    Err(Refused { why, place })
+}
+
 // Pulses per quarter note, or frames a second and ticks a frame.
 #[derive(Clone, Copy)]
 pub enum Division {
@@ -61,61 +85,36 @@ pub enum Division {
     Frames { rate: u32, ticks: u32 },
 }
 
-// What reading the header answers: its fields and the place after it, or a refusal.
+// A header that was read: its fields and the place after it.
 #[derive(Clone, Copy)]
-pub enum HeaderStep {
-    Fields {
-        format: u32,
-        count: u32,
-        division: Division,
-        next: usize,
-    },
-    BadHeader {
-        number: u8,
-        place: usize,
-    },
+pub struct HeaderRead {
+    pub format: u32,
+    pub count: u32,
+    pub division: Division,
+    pub next: usize,
 }
 
-// What reading a track's chunk answers: where its events begin and where the chunk ends.
+// A track's chunk: where its events begin and where the chunk ends.
 #[derive(Clone, Copy)]
-pub enum ChunkStep {
-    Body { start: usize, end: usize },
-    BadChunk { number: u8, place: usize },
+pub struct Chunk {
+    pub start: usize,
+    pub end: usize,
 }
 
-// What walking a track's events answers: the Time of its End_track, the number of its events,
-// End_track included, and the sum of their padding.
+// A track's events that were walked: the Time of its End_track, the number of its events, End_track included, and the sum of their
+// padding.
 #[derive(Clone, Copy)]
-pub enum WalkStep {
-    Whole {
-        time: event::Time,
-        events: u32,
-        padding: u32,
-    },
-    Fault {
-        number: u8,
-        place: usize,
-    },
+struct Walked {
+    time: event::Time,
+    events: u32,
+    padding: u32,
 }
 
-// What reading a track answers: the same, and the place after its chunk.
+// A track that was read: the same, and the place after its chunk.
 #[derive(Clone, Copy)]
-pub enum TrackStep {
-    Track {
-        time: event::Time,
-        events: u32,
-        next: usize,
-        padding: u32,
-    },
-    BadTrack {
-        number: u8,
-        place: usize,
-    },
-}
-
-// What reading all the tracks answers: the place after the last.
-#[derive(Clone, Copy)]
-pub enum TracksStep {
-    Next(usize),
-    BadTracks { number: u8, place: usize },
+pub struct TrackRead {
+    pub time: event::Time,
+    pub events: u32,
+    pub next: usize,
+    pub padding: u32,
 }

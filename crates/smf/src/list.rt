@@ -6,10 +6,10 @@ ghost use Rattle.smf.specs.Listing.{end_times, event_counts, paddings_in, list_a
 ghost use Rattle.smf.specs.Padding.{tracks_padding};
 ghost use Rattle.event.specs.Outcome.{Readable, value_or};
 
+use super::Answer;
 use super::check::check;
 use super::header::read_header;
 use super::track::read_track;
-use super::{Answer, HeaderStep, TrackStep};
 
 // Fills the three lists from the tracks at a place on, which are known to read.
 fn fill(
@@ -30,26 +30,14 @@ fn fill(
     ensures fact_3 { padding.new ≡ sets padding.old 0 (tracks_padding count first (drop first file.now)) }
 {
     let mut at = first;
-    let mut i: usize = 0;
-    while i < count {
-        match read_track(file, at) {
-            TrackStep::BadTrack { number, place } => {
-                return;
-            }
-            TrackStep::Track {
-                time,
-                events,
-                next,
-                padding: above,
-            } => {
-                let end = time.0;
-                ends[i] = end;
-                counts[i] = events;
-                padding[i] = above;
-                at = next;
-                i = i + 1;
-            }
-        }
+    for i in 0..count {
+        let Ok(track) = read_track(file, at) else {
+            return;
+        };
+        ends[i] = track.time.0;
+        counts[i] = track.events;
+        padding[i] = track.padding;
+        at = track.next;
     }
 }
 
@@ -67,14 +55,9 @@ pub fn list_tracks(file: &[u8], ends: &mut [u32], counts: &mut [u32], padding: &
         return verdict;
     }
     match read_header(file) {
-        HeaderStep::BadHeader { number, place } => Answer::refusal(number, place),
-        HeaderStep::Fields {
-            format,
-            count,
-            division,
-            next,
-        } => {
-            let tracks = count as usize;
+        Err(refused) => refused.answer(),
+        Ok(header) => {
+            let tracks = header.count as usize;
             let times = ends.len();
             if times < tracks {
                 return Answer::room_needed(tracks);
@@ -86,7 +69,7 @@ pub fn list_tracks(file: &[u8], ends: &mut [u32], counts: &mut [u32], padding: &
             if third < tracks {
                 return Answer::room_needed(tracks);
             }
-            fill(file, tracks, next, ends, counts, padding);
+            fill(file, tracks, header.next, ends, counts, padding);
             Answer::success(tracks)
         }
     }

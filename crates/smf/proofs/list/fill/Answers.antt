@@ -1,4 +1,5 @@
 use mathlib.Core.List.{[]}
+use Rattle.event.specs.Refusal.{number_of}
 use Rattle.event.specs.Outcome.{value_or}
 use Prim.Native.Nat.{suc, ◌+◌, ◌-◌}
 use lib.ListN.{drop, length-set}
@@ -16,10 +17,11 @@ loop-i-init c = let a = c.args in
     let e : a.count - 0 ≡ a.count = omega arith in
     (c.requires.fact_1, omega arith, refl, refl, rw e c.requires.fact_2, rw e refl, rw e refl, refl, rw e refl)
 
-pub returns-in-BadTrack : goal.returns-in-BadTrack
-returns-in-BadTrack c = let a = c.args in
+pub returns-in_default : goal.returns-in_default
+returns-in_default c =
     let l = c.loop-i in
-    absurd (list_bad a.file.now (a.count - l.i) l.at c.in-BadTrack.number c.in-BadTrack.place (omega (arith, c.loop-i-test.true)) (sym c.read_track.ensures ∙ c.in-BadTrack.is) l.invariant.4)
+    let e = c.in_default.field-0 in
+    absurd (list_bad c.args.file.now (c.args.count - l.i) l.at (number_of e.why) e.place (omega (arith, c.loop-i-test.true)) (sym c.in_default.ensures) l.invariant.4)
 
 pub bounds-ends-i : goal.bounds-ends-i
 bounds-ends-i c = omega (arith, c.loop-i.invariant.2, c.requires.fact_3, c.loop-i-test.true)
@@ -35,16 +37,16 @@ loop-i-preserved c = let a = c.args in
     let l = c.loop-i in
     let bytes = bytes_of a.file.now (λ k. omega (arith, c.type_inv.file k)) in
     let down : a.count - l.i ≡ suc (a.count - (l.i + 1)) = omega (arith, c.loop-i-test.true) in
-    let one = list_next a.file.now (a.count - l.i) (a.count - (l.i + 1)) l.at c.in-Track.time c.in-Track.events c.in-Track.next down bytes l.invariant.0 (sym c.read_track.ensures ∙ c.in-Track.is) l.invariant.4 in (
+    let one = list_next a.file.now (a.count - l.i) (a.count - (l.i + 1)) l.at c.in-Ok.track.time c.in-Ok.track.events c.in-Ok.track.next down bytes l.invariant.0 (sym c.in-Ok.ensures) l.invariant.4 in (
       one.inside,
       omega (arith, c.loop-i-test.true),
-      length-set l.ends l.i c.in-Track.time.0 ∙ l.invariant.2,
-      length-set l.counts l.i c.in-Track.events ∙ l.invariant.3,
+      length-set l.ends l.i c.in-Ok.track.time.0 ∙ l.invariant.2,
+      length-set l.counts l.i c.in-Ok.track.events ∙ l.invariant.3,
       one.readable,
-      sets_step l.ends l.i c.in-Track.time.0 (end_times (value_or [] (R a.file.now (a.count - (l.i + 1)) c.in-Track.next))) ∙ ap (sets l.ends l.i) (sym one.times) ∙ l.invariant.5,
-      sets_step l.counts l.i c.in-Track.events (event_counts (value_or [] (R a.file.now (a.count - (l.i + 1)) c.in-Track.next))) ∙ ap (sets l.counts l.i) (sym one.counts) ∙ l.invariant.6,
-      length-set l.padding l.i c.in-Track.above ∙ l.invariant.7,
-      sets_step l.padding l.i c.in-Track.above (tracks_padding (a.count - (l.i + 1)) c.in-Track.next (drop c.in-Track.next a.file.now)) ∙ ap (sets l.padding l.i) (sym one.paddings) ∙ l.invariant.8,
+      sets_step l.ends l.i c.in-Ok.track.time.0 (end_times (value_or [] (R a.file.now (a.count - (l.i + 1)) c.in-Ok.track.next))) ∙ ap (sets l.ends l.i) (sym one.times) ∙ l.invariant.5,
+      sets_step l.counts l.i c.in-Ok.track.events (event_counts (value_or [] (R a.file.now (a.count - (l.i + 1)) c.in-Ok.track.next))) ∙ ap (sets l.counts l.i) (sym one.counts) ∙ l.invariant.6,
+      length-set l.padding l.i c.in-Ok.track.padding ∙ l.invariant.7,
+      sets_step l.padding l.i c.in-Ok.track.padding (tracks_padding (a.count - (l.i + 1)) c.in-Ok.track.next (drop c.in-Ok.track.next a.file.now)) ∙ ap (sets l.padding l.i) (sym one.paddings) ∙ l.invariant.8,
     )
 
 pub returns : goal.returns

@@ -1,4 +1,5 @@
 use lib.ListN.{length}
+use Rattle.event.specs.Refusal.{number_of}
 use Rattle.event.proofs.BytesLaws.{bytes_of}
 use Rattle.smf.specs.Listing.{end_times, event_counts, paddings_in}
 use Rattle.smf.proofs.VerdictLaws.{head_at}
@@ -33,10 +34,10 @@ returns-then-times-tracks c = let a = c.args in
     let v = c.check-verdict.result in
     let judged = c.check-verdict.ensures.fact_1 in
     let bytes = bytes_of s (λ i. omega (arith, c.type_inv.file i)) in
-    let came = sym c.read_header.ensures ∙ c.in-Fields.is in
-    let there = file_accepted s c.in-Fields.format c.in-Fields.count c.in-Fields.division c.in-Fields.next bytes came (judged_readable s v bytes judged c.if-refused-ne0.false) in
-    let b = c.in-Fields.count in
-    let at = c.in-Fields.next in
+    let came = sym c.in-Ok.ensures in
+    let there = file_accepted s c.in-Ok.header.format c.in-Ok.header.count c.in-Ok.header.division c.in-Ok.header.next bytes came (judged_readable s v bytes judged c.if-refused-ne0.false) in
+    let b = c.in-Ok.header.count in
+    let at = c.in-Ok.header.next in
     let short = room_first n m o b c.if-times-tracks.true in
     let left = short_leaves_lem s b at there n m o short in
     let answer = c.room_needed.ensures ∙ short_answer_lem s b at there n m o short in
@@ -52,10 +53,10 @@ returns-then-counts-tracks c = let a = c.args in
     let v = c.check-verdict.result in
     let judged = c.check-verdict.ensures.fact_1 in
     let bytes = bytes_of s (λ i. omega (arith, c.type_inv.file i)) in
-    let came = sym c.read_header.ensures ∙ c.in-Fields.is in
-    let there = file_accepted s c.in-Fields.format c.in-Fields.count c.in-Fields.division c.in-Fields.next bytes came (judged_readable s v bytes judged c.if-refused-ne0.false) in
-    let b = c.in-Fields.count in
-    let at = c.in-Fields.next in
+    let came = sym c.in-Ok.ensures in
+    let there = file_accepted s c.in-Ok.header.format c.in-Ok.header.count c.in-Ok.header.division c.in-Ok.header.next bytes came (judged_readable s v bytes judged c.if-refused-ne0.false) in
+    let b = c.in-Ok.header.count in
+    let at = c.in-Ok.header.next in
     let short = room_second n m o b c.if-times-tracks.false c.if-counts-tracks.true in
     let left = short_leaves_lem s b at there n m o short in
     let answer = c.room_needed-then-counts-tracks.ensures ∙ short_answer_lem s b at there n m o short in
@@ -71,10 +72,10 @@ returns-then-third-tracks c = let a = c.args in
     let v = c.check-verdict.result in
     let judged = c.check-verdict.ensures.fact_1 in
     let bytes = bytes_of s (λ i. omega (arith, c.type_inv.file i)) in
-    let came = sym c.read_header.ensures ∙ c.in-Fields.is in
-    let there = file_accepted s c.in-Fields.format c.in-Fields.count c.in-Fields.division c.in-Fields.next bytes came (judged_readable s v bytes judged c.if-refused-ne0.false) in
-    let b = c.in-Fields.count in
-    let at = c.in-Fields.next in
+    let came = sym c.in-Ok.ensures in
+    let there = file_accepted s c.in-Ok.header.format c.in-Ok.header.count c.in-Ok.header.division c.in-Ok.header.next bytes came (judged_readable s v bytes judged c.if-refused-ne0.false) in
+    let b = c.in-Ok.header.count in
+    let at = c.in-Ok.header.next in
     let short = room_third n m o b c.if-times-tracks.false c.if-counts-tracks.false c.if-third-tracks.true in
     let left = short_leaves_lem s b at there n m o short in
     let answer = c.room_needed-then-third-tracks.ensures ∙ short_answer_lem s b at there n m o short in
@@ -90,15 +91,15 @@ fill-requires c = let a = c.args in
     let v = c.check-verdict.result in
     let judged = c.check-verdict.ensures.fact_1 in
     let bytes = bytes_of s (λ i. omega (arith, c.type_inv.file i)) in
-    let came = sym c.read_header.ensures ∙ c.in-Fields.is in
-    let there = file_accepted s c.in-Fields.format c.in-Fields.count c.in-Fields.division c.in-Fields.next bytes came (judged_readable s v bytes judged c.if-refused-ne0.false) in
-    let b = c.in-Fields.count in
-    let at = c.in-Fields.next in
-    let head = head_at s c.in-Fields.format c.in-Fields.count c.in-Fields.division c.in-Fields.next bytes came in
+    let came = sym c.in-Ok.ensures in
+    let there = file_accepted s c.in-Ok.header.format c.in-Ok.header.count c.in-Ok.header.division c.in-Ok.header.next bytes came (judged_readable s v bytes judged c.if-refused-ne0.false) in
+    let b = c.in-Ok.header.count in
+    let at = c.in-Ok.header.next in
+    let head = head_at s c.in-Ok.header.format c.in-Ok.header.count c.in-Ok.header.division c.in-Ok.header.next bytes came in
     record { fact_1 = head.inside; fact_2 = accepted_readable s b at there; fact_3 = c.if-times-tracks.false; fact_4 = c.if-counts-tracks.false; fact_5 = c.if-third-tracks.false }
 
-pub returns-in-BadHeader : goal.returns-in-BadHeader
-returns-in-BadHeader c = let a = c.args in
+pub returns-in-Err : goal.returns-in-Err
+returns-in-Err c = let a = c.args in
     let s = a.file.now in
     let n = length a.ends.now in
     let m = length a.counts.now in
@@ -106,7 +107,7 @@ returns-in-BadHeader c = let a = c.args in
     let v = c.check-verdict.result in
     let judged = c.check-verdict.ensures.fact_1 in
     let bytes = bytes_of s (λ i. omega (arith, c.type_inv.file i)) in
-    absurd (header_there s c.in-BadHeader.number c.in-BadHeader.place (sym c.read_header.ensures ∙ c.in-BadHeader.is) (judged_readable s v bytes judged c.if-refused-ne0.false))
+    absurd (header_there s (number_of c.in-Err.refused.why) c.in-Err.refused.place (sym c.in-Err.ensures) (judged_readable s v bytes judged c.if-refused-ne0.false))
 
 pub returns-else-third-tracks : goal.returns-else-third-tracks
 returns-else-third-tracks c = let a = c.args in
@@ -117,15 +118,15 @@ returns-else-third-tracks c = let a = c.args in
     let v = c.check-verdict.result in
     let judged = c.check-verdict.ensures.fact_1 in
     let bytes = bytes_of s (λ i. omega (arith, c.type_inv.file i)) in
-    let came = sym c.read_header.ensures ∙ c.in-Fields.is in
-    let there = file_accepted s c.in-Fields.format c.in-Fields.count c.in-Fields.division c.in-Fields.next bytes came (judged_readable s v bytes judged c.if-refused-ne0.false) in
-    let b = c.in-Fields.count in
-    let at = c.in-Fields.next in
+    let came = sym c.in-Ok.ensures in
+    let there = file_accepted s c.in-Ok.header.format c.in-Ok.header.count c.in-Ok.header.division c.in-Ok.header.next bytes came (judged_readable s v bytes judged c.if-refused-ne0.false) in
+    let b = c.in-Ok.header.count in
+    let at = c.in-Ok.header.next in
     let one = c.if-times-tracks.false in
     let two = c.if-counts-tracks.false in
     let three = c.if-third-tracks.false in
     let fits = room_yes n m o b one two three in
     let fine = fine_leaves s b at there n m o fits in
     let answer = c.success.ensures ∙ fine_answer s b at there n m o fits in
-    let third = c.fill.ensures.fact_3 ∙ fine_paddings s b at there n m o fits c.in-Fields.format c.in-Fields.division a.padding.now bytes came three in
+    let third = c.fill.ensures.fact_3 ∙ fine_paddings s b at there n m o fits c.in-Ok.header.format c.in-Ok.header.division a.padding.now bytes came three in
     record { fact_1 = answer; fact_2 = c.fill.ensures.fact_1 ∙ fine end_times a.ends.now length_times one; fact_3 = c.fill.ensures.fact_2 ∙ fine event_counts a.counts.now length_counts two; fact_4 = third; fact_5 = told_by s bytes n m o a.padding.now _ _ answer third }
