@@ -1,4 +1,6 @@
 -- The loop of a merge: what is left of the tracks, of the bytes to write, and what the rows say of it.
+use Rattle.std.specs.Prelude.{Result, Ok, Err}
+use Rattle.event.specs.declared.EventRead.{EventRead}
 use mathlib.Core.Path.{◌≡◌, refl, sym, ap, ap₂, ◌∙◌, subst}
 use Prim.Native.Nat.{ℕ, zero, suc, ◌+◌, ◌-◌, ◌*◌, ◌≤◌, ◌<◌}
 use mathlib.Core.Bool.{true, false}
@@ -18,8 +20,6 @@ use Rattle.event.specs.Padding.{event_padding}
 use Rattle.event.specs.Step.{event_step, kind_at, kind_from}
 use Rattle.event.specs.declared.Time.{Time}
 use Rattle.event.specs.declared.EventKind.{EventKind}
-use Rattle.event.specs.declared.EventStep.{EventStep}
-use Rattle.event.specs.declared.EventStep.TheVariants.{Read, Stop}
 use Rattle.event.proofs.ChoiceLaws.{by_test}
 use Rattle.event.proofs.EventLaws.{event_size}
 use Rattle.event_write.specs.Written.{Written}
@@ -196,11 +196,11 @@ module _ {f : List ℕ} {n : ℕ} {all : List (List Placed)} {old : List ℕ} {f
   opened i h l = stand_open f (get_or ps i 0) (get_or ts i 0) (get_or ss i 0) (get_or g.left i []) (g.rows.standing i h) (l.left h).1
 
   -- the event is read again at its place, after the Time 0
-  module _ (i : ℕ) (h : i < n) (l : Least n ts ss n i) {x : EventStep} (e : x ≡ event_step (length f) (event_padding (drop (get_or ps i 0) f)) (read_event 0 (get_or ss i 0) (drop (get_or ps i 0) f))) where
-    pub not_stopped : {k : ℕ} → x ≡ Stop k → ⊥
+  module _ (i : ℕ) (h : i < n) (l : Least n ts ss n i) {x : Result EventRead ℕ} (e : x ≡ event_step (length f) (event_padding (drop (get_or ps i 0) f)) (read_event 0 (get_or ss i 0) (drop (get_or ps i 0) f))) where
+    pub not_stopped : {k : ℕ} → x ≡ Err k → ⊥
     not_stopped {k} given = let o = opened i h l in no_stop f (get_or ps i 0) o.prev (get_or ss i 0) o.first k x bs o.link e given
 
-    pub taken_here : {u : Time} {k : EventKind} {q st y : ℕ} → x ≡ Read u k q st y → Taken f k q st (opened i h l).first
+    pub taken_here : {u : Time} {k : EventKind} {q st y : ℕ} → x ≡ Ok (record { time = u; kind = k; next = q; status = st; padding = y }) → Taken f k q st (opened i h l).first
     taken_here {u} {k} {q} {st} {y} given =
         let o = opened i h l in
         taken f (get_or ps i 0) o.prev (get_or ss i 0) o.first u k q st bs o.link

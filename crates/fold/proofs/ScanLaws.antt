@@ -1,4 +1,5 @@
 -- Looking for the first Channel_prefix or MIDI_port.
+use Rattle.std.specs.Prelude.{Ok}
 use mathlib.Core.Path.{◌≡◌, refl, sym, ap, ◌∙◌}
 use Prim.Native.Nat.{ℕ, zero, suc, ◌+◌, ◌≤◌, ◌<◌}
 use mathlib.Core.Bool.{true, false}
@@ -16,7 +17,6 @@ use Rattle.event.specs.Step.{event_step, end_of, kind_from}
 use Rattle.event.specs.declared.Time.{Time}
 use Rattle.event.specs.declared.EventKind.{EventKind}
 use Rattle.event.specs.declared.EventKind.TheVariants.{NoteOff, NoteOn, PolyAftertouch, Control, Program, ChannelAftertouch, PitchBend, SystemExclusive, SystemExclusivePacket, SequenceNumber, Text, ChannelPrefix, MidiPort, EndTrack, Tempo, SmpteOffset, TimeSignature, KeySignature, SequencerSpecific, UnknownMeta}
-use Rattle.event.specs.declared.EventStep.TheVariants.{Read}
 use Rattle.smf.specs.Reader.{read_all}
 use Rattle.smf.specs.Answer.{success, refusal}
 use Rattle.smf.specs.declared.Answer.{Answer}
@@ -63,7 +63,7 @@ pub scan_first : (body : List ℕ) (base : ℕ) → Readable (read_all 0 0 0 bod
 scan_first body base h = record { readable = h; same = ap (λ z. track_free z fine) (met_all body base) }
 
 module _ {body : List ℕ} {base at t force : ℕ} {u : Time} {k : EventKind} {q st y : ℕ} (s : Scanning body base at t force) (bs : Bytes body) (h : at ≤ length body)
-    (answer : event_step (length body) (event_padding (drop at body)) (read_event t force (drop at body)) ≡ Read u k q st y) where
+    (answer : event_step (length body) (event_padding (drop at body)) (read_event t force (drop at body)) ≡ Ok (record { time = u; kind = k; next = q; status = st; padding = y })) where
   came : Came body at t force u k q st
   came = event_came body at t force bs h refl answer
 

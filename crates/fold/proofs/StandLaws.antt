@@ -1,4 +1,6 @@
 -- Rows: what one that stands before events tells, how it goes on, and how all of them change when one does.
+use Rattle.std.specs.Prelude.{Result, Err}
+use Rattle.event.specs.declared.EventRead.{EventRead}
 use mathlib.Core.Path.{◌≡◌, refl, sym, ap, ◌∙◌, subst}
 use Prim.Native.Nat.{ℕ, ◌-◌, ◌≤◌, ◌<◌}
 use mathlib.Core.Bool.{true, false}
@@ -19,8 +21,6 @@ use Rattle.event.specs.Padding.{event_padding}
 use Rattle.event.specs.Step.{event_step, kind_from, kind_at}
 use Rattle.event.specs.declared.Time.{Time}
 use Rattle.event.specs.declared.EventKind.{EventKind}
-use Rattle.event.specs.declared.EventStep.{EventStep}
-use Rattle.event.specs.declared.EventStep.TheVariants.{Stop}
 use Rattle.event.proofs.ChoiceLaws.{by_test}
 use Rattle.event.proofs.BytesLaws.{bytes_drop}
 use Rattle.event.proofs.OutcomeLaws.{ok_same}
@@ -160,7 +160,7 @@ taken f at prev force m u k n st bs link c =
       status = ap (λ z. after (frame z)) (sym same) ∙ c.status;
     })
 
-pub no_stop : (f : List ℕ) (at prev force : ℕ) (m : Placed) (k : ℕ) (x : EventStep) → Bytes f → Link f at prev force m → x ≡ event_step (length f) (event_padding (drop at f)) (read_event 0 force (drop at f)) → x ≡ Stop k → ⊥
+pub no_stop : (f : List ℕ) (at prev force : ℕ) (m : Placed) (k : ℕ) (x : Result EventRead ℕ) → Bytes f → Link f at prev force m → x ≡ event_step (length f) (event_padding (drop at f)) (read_event 0 force (drop at f)) → x ≡ Err k → ⊥
 unfolding event_step
 no_stop f at prev force m k x bs link e g =
     let p = sym g ∙ e ∙ ap (event_step (length f) (event_padding (drop at f))) (read_zero f at prev force m bs link) in

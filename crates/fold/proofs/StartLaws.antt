@@ -1,4 +1,5 @@
 -- Rows at the beginning: one more track.
+use Rattle.std.specs.Prelude.{Ok}
 use mathlib.Core.Path.{◌≡◌, refl, sym, ap, ◌∙◌, subst}
 use Prim.Native.Nat.{ℕ, suc, ◌+◌, ◌-◌, ◌≤◌, ◌<◌}
 use mathlib.Core.List.{List, [], ◌∷◌}
@@ -15,7 +16,6 @@ use Rattle.event.specs.Step.{event_step}
 use Rattle.event.proofs.ChoiceLaws.{by_test}
 use Rattle.smf.specs.Reader.{read_chunk}
 use Rattle.smf.specs.Step.{chunk_step}
-use Rattle.smf.specs.declared.ChunkStep.TheVariants.{Body}
 use Rattle.smf.proofs.ListLaws.{R}
 use Rattle.smf.specs.Walk.{Placed}
 use Rattle.fold.specs.Code.Row.{row_of}
@@ -51,7 +51,7 @@ first_of l i x xs e =
     (ap (λ k. get_or l k []) (sym z) ∙ sym (get_or-drop i l 0 []) ∙ ap (λ k. get_or k 0 []) e, sym (drop-drop 1 i l) ∙ ap (drop 1) e)
 
 pub start_more : (f : List ℕ) (n first at i a b : ℕ) (ps ts ss ps₀ ts₀ ss₀ : List ℕ) (row : Row) → Bytes f → i < n → n ≤ length ps → n ≤ length ts → n ≤ length ss
-    → chunk_step (length f) (read_chunk at (drop at f)) ≡ Body a b → row ≡ row_of a 0 0 (event_step (length f) (event_padding (drop a f)) (read_event 0 0 (drop a f)))
+    → chunk_step (length f) (read_chunk at (drop at f)) ≡ Ok (record { start = a; end = b }) → row ≡ row_of a 0 0 (event_step (length f) (event_padding (drop a f)) (read_event 0 0 (drop a f)))
     → Starting f n first at i ps ts ss ps₀ ts₀ ss₀ → Starting f n first b (i + 1) (set ps i row.place) (set ts i row.time) (set ss i row.status) ps₀ ts₀ ss₀
 start_more f n first at i a b ps ts ss ps₀ ts₀ ss₀ row bs h u v w e r s =
     let down : n - i ≡ suc (n - (i + 1)) = omega arith in

@@ -1,4 +1,6 @@
 -- The answers of a fold.
+use Rattle.std.specs.Prelude.{Result, Ok}
+use Rattle.smf.specs.declared.HeaderRead.{HeaderRead}
 use mathlib.Core.Path.{◌≡◌, refl, sym, ap, ap₂, ◌∙◌}
 use Prim.Native.Nat.{ℕ, ◌≤◌, ◌<◌}
 use mathlib.Core.List.{List, [], ◌++◌, append-nil}
@@ -18,8 +20,6 @@ use Rattle.smf.specs.Reader.{read_header, read_file}
 use Rattle.smf.specs.Step.{division_from, header_step}
 use Rattle.smf.specs.declared.Answer.{Answer}
 use Rattle.smf.specs.declared.Division.{Division}
-use Rattle.smf.specs.declared.HeaderStep.{HeaderStep}
-use Rattle.smf.specs.declared.HeaderStep.TheVariants.{Fields}
 use Rattle.smf.proofs.DivisionLaws.{division_back, division_fits}
 use Rattle.smf.proofs.AcceptedLaws.{AcceptedFile, headed, file_accepted, file_readable, accepted_file}
 use Rattle.smf.proofs.ListLaws.{R, Accepted}
@@ -63,9 +63,9 @@ check_refused rows f old ps ts ss v e h =
     judged_refused (read_file f) v e h (λ k q p w. promise_refused (fold_outcome rows f) f old ps ts ss k q v (outcome_refused rows f k q p) w)
 
 -- a file that was checked and found good, with its header's numbers
-module _ (f : List ℕ) (bs : Bytes f) {v : Answer} (judged : v ≡ verdict (read_file f)) (good : v.number ≡ 0) {x : HeaderStep} (answer : x ≡ header_step (length f) (read_header f))
-    {a b : ℕ} {d : Division} {n : ℕ} (given : x ≡ Fields a b d n) where
-  head : header_step (length f) (read_header f) ≡ Fields a b d n
+module _ (f : List ℕ) (bs : Bytes f) {v : Answer} (judged : v ≡ verdict (read_file f)) (good : v.number ≡ 0) {x : Result HeaderRead (ℕ × ℕ)} (answer : x ≡ header_step (length f) (read_header f))
+    {a b : ℕ} {d : Division} {n : ℕ} (given : x ≡ Ok (record { format = a; count = b; division = d; next = n })) where
+  head : header_step (length f) (read_header f) ≡ Ok (record { format = a; count = b; division = d; next = n })
   head = sym answer ∙ given
 
   file : AcceptedFile f

@@ -5,7 +5,8 @@ ghost use Rattle.std.specs.Prelude.{◌≡◌, length};
 ghost use Rattle.smf.specs.PlacedFile.{placed_file};
 ghost use Rattle.fold_piece.specs.FoldAnswer.{fold_answer, fold_leaves, fold_outcome, rows_lent, rows_leave, place_shown, time_shown, status_shown};
 
-use smf::{Answer, HeaderStep};
+use event::refusal::Refusal;
+use smf::Answer;
 
 mod search; // search.rt: which row gives its event next
 mod rows; // rows.rt: the rows, one for each track
@@ -51,31 +52,26 @@ pub fn fold(
     if refused != 0 {
         return verdict;
     }
-    match smf::header::read_header(file) {
-        HeaderStep::BadHeader { number, place } => Answer::refusal(number, place),
-        HeaderStep::Fields {
-            format,
-            count,
-            division,
-            next,
-        } => {
-            if 1 < format {
-                return Answer::refusal(32, 8);
-            }
-            if MOST_TRACKS < count {
-                return Answer::refusal(31, 10);
-            }
-            let tracks = count as usize;
-            if rows::rows_lent(places, times, statuses) < tracks {
-                return Answer::refusal(37, 10);
-            }
-            let found = look::look(file, tracks, next);
-            let number = found.number;
-            if number != 0 {
-                return found;
-            }
-            let bits = smf::header::division_bits(division);
-            write::put_measured(out, places, times, statuses, file, tracks, next, bits)
-        }
+    let header = match smf::header::read_header(file) {
+        Ok(header) => header,
+        Err(refused) => return refused.answer(),
+    };
+    let format = header.format;
+    if 1 < format {
+        return Answer::refuse(Refusal::Format2, 8);
     }
+    let count = header.count;
+    if MOST_TRACKS < count {
+        return Answer::refuse(Refusal::TooManyTracks, 10);
+    }
+    let tracks = count as usize;
+    if rows::rows_lent(places, times, statuses) < tracks {
+        return Answer::refuse(Refusal::TooFewRows, 10);
+    }
+    let next = header.next;
+    if let Some(place) = look::look(file, tracks, next) {
+        return Answer::refuse(Refusal::PrefixOrPort, place);
+    }
+    let bits = smf::header::division_bits(header.division);
+    write::put_measured(out, places, times, statuses, file, tracks, next, bits)
 }

@@ -5,11 +5,10 @@ ghost use Rattle.smf.specs.Reader.{read_all};
 ghost use Rattle.smf.specs.Walk.{walked_body, placed_of};
 ghost use Rattle.smf.specs.Code.Chain.{placed_from};
 ghost use Rattle.fold_piece.specs.FoldAnswer.{track_free, tracks_free, several_free};
-ghost use Rattle.fold.specs.Code.Look.{prefix_or_port_of, look_answer, fine};
+ghost use Rattle.fold.specs.Code.Look.{prefix_or_port_of, looked, look_answer, fine};
 ghost use Rattle.fold.specs.Code.Row.{TracksRead};
 
-use event::{EventKind, EventStep, Time};
-use smf::{Answer, ChunkStep};
+use event::{EventKind, Time};
 
 // Fewer tracks than so many may have a Channel_prefix or a MIDI_port.
 const SEVERAL: usize = 2;
@@ -18,82 +17,65 @@ const SEVERAL: usize = 2;
 fn is_prefix_or_port(kind: EventKind) -> bool
     ensures { result ≡ prefix_or_port_of kind }
 {
-    match kind {
-        EventKind::ChannelPrefix { number } => true,
-        EventKind::MidiPort { number } => true,
-        _ => false,
-    }
+    matches!(
+        kind,
+        EventKind::ChannelPrefix { .. } | EventKind::MidiPort { .. }
+    )
 }
 
-// Looks for one in a track's body, which is known to read and whose first byte is the file's byte at base.
-fn scan_track(body: &[u8], base: usize) -> Answer
+// The place of the first one in a track's body, which is known to read and whose first byte is the file's byte at base.
+fn scan_track(body: &[u8], base: usize) -> Option<usize>
     requires fact_1 { base + length body.now < 2 ^ 64 }
     requires fact_2 { Readable (read_all 0 0 0 body.now) }
-    ensures { result ≡ look_answer (track_free (placed_of (walked_body base body.now)) fine) }
+    ensures { looked result ≡ look_answer (track_free (placed_of (walked_body base body.now)) fine) }
 {
     let mut at: usize = 0;
     let mut time = Time(0);
     let mut status: u8 = 0;
-    let sorts = event::sort::SORTS;
     loop {
-        match event::read::read_event_by(body, at, time, status, &sorts) {
-            EventStep::Stop { number } => {
-                return Answer::success(0);
-            }
-            EventStep::Read {
-                time: t,
-                kind,
-                next,
-                status: s,
-                padding,
-            } => {
-                if is_prefix_or_port(kind) {
-                    return Answer::refusal(33, base + at);
-                }
-                if event::read::is_end(kind) {
-                    return Answer::success(0);
-                }
-                at = next;
-                time = t;
-                status = s;
-            }
+        let Ok(read) = event::read::read_event(body, at, time, status) else {
+            return None;
+        };
+        let kind = read.kind;
+        if is_prefix_or_port(kind) {
+            return Some(base + at);
         }
+        if event::read::is_end(kind) {
+            return None;
+        }
+        at = read.next;
+        time = read.time;
+        status = read.status;
     }
 }
 
-// Looks for one in so many tracks from a place of the file on, which are known to read.
-fn scan_tracks(file: &[u8], count: usize, first: usize) -> Answer
+// The place of the first one in so many tracks from a place of the file on, which are known to read.
+fn scan_tracks(file: &[u8], count: usize, first: usize) -> Option<usize>
     requires { TracksRead file.now count first }
-    ensures { result ≡ look_answer (tracks_free (placed_from file.now count first) fine) }
+    ensures { looked result ≡ look_answer (tracks_free (placed_from file.now count first) fine) }
 {
     let mut at = first;
-    let mut i: usize = 0;
-    while i < count {
-        match smf::track::next_track(file, at) {
-            ChunkStep::BadChunk { number, place } => {
-                return Answer::success(0);
-            }
-            ChunkStep::Body { start, end } => {
-                let found = scan_track(&file[start..end], start);
-                let number = found.number;
-                if number != 0 {
-                    return found;
-                }
-                at = end;
-                i = i + 1;
-            }
+    for _ in 0..count {
+        let Ok(chunk) = smf::track::next_track(file, at) else {
+            return None;
+        };
+        let start = chunk.start;
+        let end = chunk.end;
+        if let Some(place) = scan_track(&file[start..end], start) {
+            return Some(place);
         }
+        at = end;
     }
-    Answer::success(0)
+    None
 }
 
 // The same, if they are several.
-pub fn look(file: &[u8], count: usize, first: usize) -> Answer
+pub fn look(file: &[u8], count: usize, first: usize) -> Option<usize>
     requires { TracksRead file.now count first }
-    ensures { result ≡ look_answer (several_free count (placed_from file.now count first) fine) }
+    ensures { looked result ≡ look_answer (several_free count (placed_from file.now count first) fine) }
 {
     if count < SEVERAL {
-        return Answer::success(0);
+        return None;
     }
     scan_tracks(file, count, first)
 }

@@ -8,8 +8,8 @@ ghost use Rattle.fold.specs.Code.Row.{TracksRead, track_of, RowsFor, showing};
 
 use super::rows::{clear, row_of, start_rows};
 use super::search::{greatest_time, least, least_after};
-use event::read::read_event_by;
-use event::{EventKind, EventStep, Time};
+use event::read::read_event;
+use event::{EventKind, Time};
 use smf_write::tidy::{put_event, step};
 
 // The events of so many tracks from a place of the file on, which are known to read, as those of one
@@ -39,7 +39,6 @@ pub fn merge(
     let mut last = Time(0);
     let mut force: u8 = 0;
     let mut i = least(times, statuses, count);
-    let sorts = event::sort::SORTS;
     'turn: loop {
         let none_left = count <= i;
         if none_left {
@@ -60,29 +59,18 @@ pub fn merge(
         let now = times[i];
         let status = statuses[i];
         let time = Time(now);
-        match read_event_by(file, at, Time(0), status, &sorts) {
-            EventStep::Stop { number } => {
-                return next;
-            }
-            EventStep::Read {
-                time: d,
-                kind,
-                next: n,
-                status: s,
-                padding,
-            } => {
-                next = put_event(out, next, step(time, last), kind, force, file, true);
-                let row = row_of(n, time, s, read_event_by(file, n, time, s, &sorts));
-                let p = row.place;
-                let t = row.time;
-                let c = row.status;
-                places[i] = p;
-                times[i] = t;
-                statuses[i] = c;
-                last = time;
-                force = s;
-                i = least_after(times, statuses, count, i, now);
-            }
-        }
+        let Ok(read) = read_event(file, at, Time(0), status) else {
+            return next;
+        };
+        let n = read.next;
+        let s = read.status;
+        next = put_event(out, next, step(time, last), read.kind, force, file, true);
+        let row = row_of(n, time, s, read_event(file, n, time, s));
+        places[i] = row.place;
+        times[i] = row.time;
+        statuses[i] = row.status;
+        last = time;
+        force = s;
+        i = least_after(times, statuses, count, i, now);
     }
 }

@@ -3,6 +3,7 @@
 ghost use Rattle.std.specs.Prelude.{◌≡◌, ◌++◌, ◌≤◌, min, length, drop, replicate};
 ghost use Rattle.event.specs.Reader.{read_event};
 ghost use Rattle.event.specs.Padding.{event_padding};
+ghost use Rattle.event.specs.Refusal.{numbered};
 ghost use Rattle.event.specs.Step.{event_step};
 ghost use Rattle.smf.specs.Code.Chain.{placed_from};
 ghost use Rattle.fold_piece.specs.FoldAnswer.{rows_lent};
@@ -10,48 +11,29 @@ ghost use Rattle.fold.specs.Code.Row.{row_of, TracksRead};
 ghost use Rattle.fold.specs.Code.Stand.{Rows};
 
 use super::{ENDED, Row};
-use event::{EventStep, Time};
-use smf::ChunkStep;
-
-// The smaller of two numbers.
-fn fewer(a: usize, b: usize) -> usize
-    ensures { result ≡ min a b }
-{
-    if a < b {
-        return a;
-    }
-    b
-}
+use event::refusal::Refusal;
+use event::{EventRead, Time};
 
 // How many rows are lent: as many as the shortest of the lists has numbers.
 pub fn rows_lent(places: &[usize], times: &[u32], statuses: &[u8]) -> usize
     ensures { result ≡ rows_lent places.now times.now statuses.now }
 {
-    fewer(places.len(), fewer(times.len(), statuses.len()))
+    places.len().min(times.len().min(statuses.len()))
 }
 
 // The row of a track whose next event stands at a place, after a Time, with a status in force, as it was read.
-pub fn row_of(at: usize, time: Time, status: u8, step: EventStep) -> Row
-    ensures { result ≡ row_of at time.0 status step }
+pub fn row_of(at: usize, time: Time, status: u8, step: Result<EventRead, Refusal>) -> Row
+    ensures { result ≡ row_of at time.0 status (numbered step) }
 {
     match step {
-        EventStep::Stop { number } => {
-            let t = time.0;
-            Row {
-                place: at,
-                time: t,
-                status: ENDED,
-            }
-        }
-        EventStep::Read {
-            time: u,
-            kind,
-            next,
-            status: s,
-            padding,
-        } => {
-            let t = u.0;
-            if event::read::is_end(kind) {
+        Err(_) => Row {
+            place: at,
+            time: time.0,
+            status: ENDED,
+        },
+        Ok(read) => {
+            let t = read.time.0;
+            if event::read::is_end(read.kind) {
                 return Row {
                     place: at,
                     time: t,
@@ -96,24 +78,15 @@ pub fn start_rows(
     ensures { Rows file.now count (placed_from file.now count first) places.new times.new statuses.new places.old times.old statuses.old }
 {
     let mut at = first;
-    let mut i: usize = 0;
-    while i < count {
-        match smf::track::next_track(file, at) {
-            ChunkStep::BadChunk { number, place } => {
-                return;
-            }
-            ChunkStep::Body { start, end } => {
-                let row = row_at(file, start, Time(0), 0);
-                let place = row.place;
-                let time = row.time;
-                let status = row.status;
-                places[i] = place;
-                times[i] = time;
-                statuses[i] = status;
-                at = end;
-                i = i + 1;
-            }
-        }
+    for i in 0..count {
+        let Ok(chunk) = smf::track::next_track(file, at) else {
+            return;
+        };
+        let row = row_at(file, chunk.start, Time(0), 0);
+        places[i] = row.place;
+        times[i] = row.time;
+        statuses[i] = row.status;
+        at = chunk.end;
     }
 }
 
@@ -122,9 +95,5 @@ pub fn clear(statuses: &mut [u8], n: usize)
     requires { n ≤ length statuses.old }
     ensures { statuses.new ≡ replicate n 0 ++ drop n statuses.old }
 {
-    let mut i: usize = 0;
-    while i < n {
-        statuses[i] = 0;
-        i = i + 1;
-    }
+    statuses[..n].fill(0);
 }

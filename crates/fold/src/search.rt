@@ -1,6 +1,6 @@
 // The search among the rows: which track gives its event next, and the greatest Time. A row with
 // status 1 has no event left but its End_track.
-ghost use Rattle.std.specs.Prelude.{◌≡◌, ◌≤◌, ◌<◌, max, length, take};
+ghost use Rattle.std.specs.Prelude.{◌≡◌, ◌≤◌, ◌<◌, length, take};
 ghost use Rattle.fold_piece.specs.Fold.{greatest};
 ghost use Rattle.fold.specs.Code.Search.{nearer, least_of, least_after};
 
@@ -37,10 +37,8 @@ pub fn least(times: &[u32], statuses: &[u8], n: usize) -> usize
     ensures { result ≡ least_of n times.now statuses.now }
 {
     let mut best = n;
-    let mut i: usize = 0;
-    while i < n {
+    for i in 0..n {
         best = lesser(times, statuses, n, best, i);
-        i = i + 1;
     }
     best
 }
@@ -62,26 +60,14 @@ pub fn least_after(times: &[u32], statuses: &[u8], n: usize, i: usize, time: u32
     i
 }
 
-// The greater of two Times.
-fn later_of(t: u32, u: u32) -> u32
-    ensures { result ≡ max t u }
-{
-    if t < u {
-        return u;
-    }
-    t
-}
-
 // The greatest of the first n Times.
 pub fn greatest_time(times: &[u32], n: usize) -> u32
     requires { n ≤ length times.now }
     ensures { result ≡ greatest (take n times.now) }
 {
     let mut t: u32 = 0;
-    let mut i: usize = 0;
-    while i < n {
-        t = later_of(t, times[i]);
-        i = i + 1;
+    for time in &times[..n] {
+        t = t.max(*time);
     }
     t
 }

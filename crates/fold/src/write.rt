@@ -9,6 +9,7 @@ ghost use Rattle.fold.specs.Code.Row.{TracksRead, track_of, file_in, RowsFor, sh
 
 use super::FILE_LIMIT;
 use super::merge::merge;
+use event::refusal::Refusal;
 use event_write::bytes::{put_four, put_two};
 use smf::{Answer, HEADER_TAG, TRACK_TAG};
 
@@ -101,7 +102,7 @@ pub fn put_measured(
         bits,
     );
     if FILE_LIMIT < need {
-        return Answer::refusal(29, 0);
+        return Answer::refuse(Refusal::WrittenTooLong, 0);
     }
     if out.len() < need {
         return Answer::room_needed(need);

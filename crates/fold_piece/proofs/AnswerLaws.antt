@@ -1,4 +1,6 @@
 -- What is known of a fold's outcome: its refusals, their places, and where it is the folded piece.
+use Rattle.std.specs.Prelude.{Result, Ok, Err}
+use Rattle.smf.specs.declared.HeaderRead.{HeaderRead}
 use mathlib.Core.Path.{◌≡◌, refl, sym, ap, ap₂, ◌∙◌, subst}
 use Prim.Native.Nat.{ℕ, ◌≤◌}
 use mathlib.Core.Bool.{false≢true}
@@ -21,8 +23,6 @@ use Rattle.smf.specs.Manner.{file_of}
 use Rattle.smf.specs.Reader.{file_limit, read_header, read_file}
 use Rattle.smf.specs.Step.{header_step}
 use Rattle.smf.specs.Writing.{write_answer, short_answer}
-use Rattle.smf.specs.declared.HeaderStep.{HeaderStep}
-use Rattle.smf.specs.declared.HeaderStep.TheVariants.{Fields, BadHeader}
 use Rattle.smf.specs.Walk.{Placed, tracks_of}
 use Rattle.smf.specs.PlacedFile.{placed_file}
 use Rattle.smf.proofs.AcceptedLaws.{header_there}
@@ -154,12 +154,12 @@ outcome_good rows f z t e k =
 
 -- ---- every place lies in the file, so that the answer fits the exported number
 
-within_with : (f : List ℕ) (p : Piece) (r : List ℕ) (x : HeaderStep) → Bytes f → read_file f ≡ ok p r → header_step (length f) (read_header f) ≡ x → AllWithin (length f) (placed_file f)
+within_with : (f : List ℕ) (p : Piece) (r : List ℕ) (x : Result HeaderRead (ℕ × ℕ)) → Bytes f → read_file f ≡ ok p r → header_step (length f) (read_header f) ≡ x → AllWithin (length f) (placed_file f)
 unfolding Readable
-within_with f p r (Fields a b d n) bs e h =
-    let there = accepted_piece f a b d n p r bs h e in
-    subst (AllWithin (length f)) (sym (file_placed f a b d n bs h)) (placed_within f b n bs (accepted_readable f b n there))
-within_with f p r (BadHeader k z) bs e h = absurd (header_there f k z h (subst Readable (sym e) tt))
+within_with f p r (Ok q) bs e h =
+    let there = accepted_piece f q.format q.count q.division q.next p r bs h e in
+    subst (AllWithin (length f)) (sym (file_placed f q.format q.count q.division q.next bs h)) (placed_within f q.count q.next bs (accepted_readable f q.count q.next there))
+within_with f p r (Err (k, z)) bs e h = absurd (header_there f k z h (subst Readable (sym e) tt))
 
 -- its number is not 0 either
 pub outcome_fair : (rows : ℕ) (f : List ℕ) (k q : ℕ) → Bytes f → fold_outcome rows f ≡ refused k q → (1 ≤ k) × (q ≤ file_limit)

@@ -1,4 +1,6 @@
 -- Channel_prefix and MIDI_port: a track refuses by 33, whatever comes after it, or lets through what comes; and 33 lies in the file.
+use Rattle.std.specs.Prelude.{Result, Ok, Err}
+use Rattle.smf.specs.declared.Chunk.{Chunk}
 use mathlib.Core.Path.{◌≡◌, refl, sym, ◌∙◌, subst}
 use Prim.Native.Nat.{ℕ, zero, suc, ◌≤◌}
 use mathlib.Core.Bool.{Bool, true, false, not, false≢true}
@@ -20,8 +22,6 @@ use Rattle.smf.specs.Step.{chunk_step}
 use Rattle.smf.specs.Walk.{Placed, events_of, tracks_of}
 use Rattle.smf.specs.PlacedFile.{placed_tracks}
 use Rattle.smf.specs.Code.Chain.{Tail, Chain, placed_from}
-use Rattle.smf.specs.declared.ChunkStep.{ChunkStep}
-use Rattle.smf.specs.declared.ChunkStep.TheVariants.{Body, BadChunk}
 use Rattle.smf.proofs.ListLaws.{R}
 use Rattle.smf.proofs.TurnLaws.{tracks_stop}
 use Rattle.smf.proofs.PlacedLaws.{track_placed}
@@ -104,13 +104,13 @@ chain_within f at prev force (e ∷ es) c = (
   tail_within (length f) (is_end e.event.kind) es _ (chain_within f e.next e.event.time (after (frame e.event.kind)) es) c.1,
 )
 
-within_with : (f : List ℕ) (n at : ℕ) (x : ChunkStep) → Bytes f → x ≡ chunk_step (length f) (read_chunk at (drop at f)) → Readable (R f (suc n) at)
+within_with : (f : List ℕ) (n at : ℕ) (x : Result Chunk (ℕ × ℕ)) → Bytes f → x ≡ chunk_step (length f) (read_chunk at (drop at f)) → Readable (R f (suc n) at)
     → ((b : ℕ) → Readable (R f n b) → AllWithin (length f) (placed_from f n b)) → AllWithin (length f) (placed_from f (suc n) at)
 unfolding AllWithin
-within_with f n at (Body a b) bs e good rest =
-    let m = track_placed f (suc n) n at a b refl bs (sym e) good in
-    subst (AllWithin (length f)) (sym m.all) (chain_within f a 0 0 _ m.chain, rest b m.turn.rest)
-within_with f n at (BadChunk k p) bs e good rest = absurd (tracks_stop f (suc n) at k p (omega arith) (sym e) good)
+within_with f n at (Ok c) bs e good rest =
+    let m = track_placed f (suc n) n at c.start c.end refl bs (sym e) good in
+    subst (AllWithin (length f)) (sym m.all) (chain_within f c.start 0 0 _ m.chain, rest c.end m.turn.rest)
+within_with f n at (Err (k, p)) bs e good rest = absurd (tracks_stop f (suc n) at k p (omega arith) (sym e) good)
 
 pub placed_within : (f : List ℕ) (n at : ℕ) → Bytes f → Readable (R f n at) → AllWithin (length f) (placed_from f n at)
 unfolding placed_tracks AllWithin

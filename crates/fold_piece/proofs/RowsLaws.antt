@@ -1,4 +1,7 @@
 -- The rows of an accepted file: each shows its track's End_track, at its place.
+use Rattle.std.specs.Prelude.{Result, Ok, Err}
+use Rattle.smf.specs.declared.Chunk.{Chunk}
+use Rattle.smf.specs.declared.HeaderRead.{HeaderRead}
 use mathlib.Core.Path.{◌≡◌, refl, sym, ap, ap₂, ◌∙◌, subst}
 use Prim.Native.Nat.{ℕ, zero, suc, ◌≤◌}
 use mathlib.Core.List.{List, [], ◌∷◌}
@@ -19,10 +22,6 @@ use Rattle.smf.specs.Step.{chunk_step, header_step, last_time}
 use Rattle.smf.specs.Walk.{Placed, events_of, tracks_of}
 use Rattle.smf.specs.PlacedFile.{placed_tracks}
 use Rattle.smf.specs.Code.Chain.{Tail, Chain, placed_from}
-use Rattle.smf.specs.declared.ChunkStep.{ChunkStep}
-use Rattle.smf.specs.declared.ChunkStep.TheVariants.{Body, BadChunk}
-use Rattle.smf.specs.declared.HeaderStep.{HeaderStep}
-use Rattle.smf.specs.declared.HeaderStep.TheVariants.{Fields, BadHeader}
 use Rattle.smf.proofs.AcceptedLaws.{header_there}
 use Rattle.smf.proofs.DemandLaws.{laid_read}
 use Rattle.smf.proofs.ListLaws.{R, accepted_piece, accepted_readable}
@@ -66,13 +65,13 @@ record Ends (f : List ℕ) (ts : List (List Placed)) : Type 0 where
   pub ends : EndsAt f (ends_shown (λ e. e) ts)
   pub times : ends_shown time_shown ts ≡ end_times (tracks_of ts)
 
-ends_with : (f : List ℕ) (n at : ℕ) (x : ChunkStep) → Bytes f → x ≡ chunk_step (length f) (read_chunk at (drop at f)) → Readable (R f (suc n) at)
+ends_with : (f : List ℕ) (n at : ℕ) (x : Result Chunk (ℕ × ℕ)) → Bytes f → x ≡ chunk_step (length f) (read_chunk at (drop at f)) → Readable (R f (suc n) at)
     → ((b : ℕ) → Readable (R f n b) → Ends f (placed_from f n b)) → Ends f (placed_from f (suc n) at)
-ends_with f n at (Body a b) bs e good rest =
-    let m = track_placed f (suc n) n at a b refl bs (sym e) good in
-    let more = rest b m.turn.rest in
-    subst (Ends f) (sym m.all) (record { ends = track_ends f a 0 0 _ _ m.chain more.ends; times = track_times f a 0 0 _ _ m.chain more.times })
-ends_with f n at (BadChunk k p) bs e good rest = absurd (tracks_stop f (suc n) at k p (omega arith) (sym e) good)
+ends_with f n at (Ok c) bs e good rest =
+    let m = track_placed f (suc n) n at c.start c.end refl bs (sym e) good in
+    let more = rest c.end m.turn.rest in
+    subst (Ends f) (sym m.all) (record { ends = track_ends f c.start 0 0 _ _ m.chain more.ends; times = track_times f c.start 0 0 _ _ m.chain more.times })
+ends_with f n at (Err (k, p)) bs e good rest = absurd (tracks_stop f (suc n) at k p (omega arith) (sym e) good)
 
 ends_of : (f : List ℕ) (n at : ℕ) → Bytes f → Readable (R f n at) → Ends f (placed_from f n at)
 unfolding placed_tracks EndsAt ends_shown end_times
@@ -81,21 +80,21 @@ ends_of f (suc n) at bs good = ends_with f n at _ bs refl good (λ b g. ends_of 
 
 -- ---- a file
 
-rows_with : (f : List ℕ) (p : Piece) (x : HeaderStep) → Bytes f → read_file f ≡ ok p [] → header_step (length f) (read_header f) ≡ x → RowsOf f p
+rows_with : (f : List ℕ) (p : Piece) (x : Result HeaderRead (ℕ × ℕ)) → Bytes f → read_file f ≡ ok p [] → header_step (length f) (read_header f) ≡ x → RowsOf f p
 unfolding Readable value_or
-rows_with f p (Fields a b d n) bs e h =
-    let there = accepted_piece f a b d n p [] bs h e in
-    let good = accepted_readable f b n there in
-    let shown = ends_of f b n bs good in
+rows_with f p (Ok q) bs e h =
+    let there = accepted_piece f q.format q.count q.division q.next p [] bs h e in
+    let good = accepted_readable f q.count q.next there in
+    let shown = ends_of f q.count q.next bs good in
     let piece : there.piece ≡ p = ok_same there.piece p there.rest [] (sym there.read ∙ e) (λ s r. s) in
-    let same : tracks_of (placed_from f b n) ≡ p.tracks = tracks_placed f b n bs good ∙ ap (value_or []) there.tracks ∙ ap (λ (z : Piece). z.tracks) piece in
-    let placed = file_placed f a b d n bs h in
+    let same : tracks_of (placed_from f q.count q.next) ≡ p.tracks = tracks_placed f q.count q.next bs good ∙ ap (value_or []) there.tracks ∙ ap (λ (z : Piece). z.tracks) piece in
+    let placed = file_placed f q.format q.count q.division q.next bs h in
     record {
       events = ap tracks_of placed ∙ same;
       ends = subst (λ z. EndsAt f (ends_shown (λ e. e) z)) (sym placed) shown.ends;
       times = ap (ends_shown time_shown) placed ∙ shown.times ∙ ap end_times same;
     }
-rows_with f p (BadHeader k z) bs e h = absurd (header_there f k z h (subst Readable (sym e) tt))
+rows_with f p (Err (k, z)) bs e h = absurd (header_there f k z h (subst Readable (sym e) tt))
 
 pub rows_of : (f : List ℕ) (p : Piece) → Bytes f → LaidOut f p → length f ≤ file_limit → RowsOf f p
 rows_of f p bs laid h = rows_with f p _ bs (laid_read f p laid h) refl

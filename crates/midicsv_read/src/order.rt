@@ -9,7 +9,7 @@ ghost use Rattle.midicsv_read.specs.Progress.{header_step, start_step, end_step,
 
 use super::write_row::{put_row, row_kind, status_after};
 use super::{Progress, Step};
-use event::{Delta, Since, Time};
+use event::{Delta, Time};
 use event_write::bytes::{put_four, put_two};
 use midicsv_record::line::read_line;
 use midicsv_record::{LineStep, Row};
@@ -170,8 +170,8 @@ fn take_event(out: &mut [u8], st: Progress, row: Row, line: &[u8], short: bool) 
         return Step::Bad { number: 26 };
     }
     match Time(row.time).since(st.time) {
-        Since::Before => Step::Bad { number: 26 },
-        Since::After(delta) => {
+        None => Step::Bad { number: 26 },
+        Some(delta) => {
             let d = delta.0;
             if MOST_DELTA < d {
                 return Step::Bad { number: 27 };

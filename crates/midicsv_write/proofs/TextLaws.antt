@@ -1,4 +1,5 @@
 -- A file's own events and tracks as lines: the turns of the loops over them, and the text of the whole.
+use Rattle.std.specs.Prelude.{Ok}
 use mathlib.Core.Path.{◌≡◌, sym, ap, ap₂, ◌∙◌}
 use Prim.Native.Nat.{ℕ, suc, ◌+◌, ◌-◌, ◌≤◌}
 use mathlib.Core.List.{List, [], ◌∷◌, ◌++◌, append_assoc}
@@ -17,7 +18,6 @@ use Rattle.smf.specs.PieceRead.{piece_read}
 use Rattle.smf.specs.Division.{bits}
 use Rattle.smf.specs.Step.{division_from, header_step}
 use Rattle.smf.specs.declared.Division.{Division}
-use Rattle.smf.specs.declared.HeaderStep.TheVariants.{Fields}
 use Rattle.smf.proofs.FileLaws.{file_sound}
 use Rattle.smf.proofs.ListLaws.{R, none_left, Accepted}
 use Rattle.smf.proofs.CameLaws.{Came}
@@ -98,7 +98,7 @@ track_lines w n es = lines_cons w (mark start_track n) (event_records n es)
 
 -- ---- the text of the file's piece, as the code writes it
 
-pub text_lines : (w : Form) (s : List ℕ) (a b : ℕ) (d : Division) (n : ℕ) → Bytes s → header_step (length s) (read_header s) ≡ Fields a b d n → Accepted s b n
+pub text_lines : (w : Form) (s : List ℕ) (a b : ℕ) (d : Division) (n : ℕ) → Bytes s → header_step (length s) (read_header s) ≡ Ok (record { format = a; count = b; division = d; next = n }) → Accepted s b n
     → written_as w (piece_read s) ≡ line w (header_for a b (bits (division_from d))) ++ (TracksLeft w 1 s b n ++ line w (mark end_of_file 0))
 unfolding written_as piece_records header_record value_or
 text_lines w s a b d n bs e there =

@@ -12,8 +12,8 @@ ghost use Rattle.midicsv.specs.Text.{mark, event_records, track_records, records
 ghost use Rattle.midicsv_write.specs.ToText.{written_answer, written_leaves};
 
 use super::record::{put_end_line, put_event_line, put_header_line, put_start_line};
-use event::{EventStep, Time};
-use smf::{Answer, ChunkStep, HeaderStep};
+use event::Time;
+use smf::Answer;
 
 // The two forms: whether a sheet is written.
 const TEXT: bool = false;
@@ -32,28 +32,17 @@ fn put_events(out: &mut [u8], from: usize, body: &[u8], track: u32, sheet: bool)
     let mut at: usize = 0;
     let mut time = Time(0);
     let mut status: u8 = 0;
-    let sorts = event::sort::SORTS;
     loop {
-        match event::read::read_event_by(body, at, time, status, &sorts) {
-            EventStep::Stop { number } => {
-                return next;
-            }
-            EventStep::Read {
-                time: t,
-                kind,
-                next: n,
-                status: s,
-                padding,
-            } => {
-                next = put_event_line(out, next, track, t, kind, body, sheet);
-                if event::read::is_end(kind) {
-                    return next;
-                }
-                at = n;
-                time = t;
-                status = s;
-            }
+        let Ok(read) = event::read::read_event(body, at, time, status) else {
+            return next;
+        };
+        next = put_event_line(out, next, track, read.time, read.kind, body, sheet);
+        if event::read::is_end(read.kind) {
+            return next;
         }
+        at = read.next;
+        time = read.time;
+        status = read.status;
     }
 }
 
@@ -87,18 +76,14 @@ fn put_tracks(
 {
     let mut next = from;
     let mut at = first;
-    let mut track: u32 = 1;
-    while track <= count {
-        match smf::track::next_track(file, at) {
-            ChunkStep::BadChunk { number, place } => {
-                return next;
-            }
-            ChunkStep::Body { start, end } => {
-                next = put_track(out, next, &file[start..end], track, sheet);
-                at = end;
-                track = track + 1;
-            }
-        }
+    for track in 1..=count {
+        let Ok(chunk) = smf::track::next_track(file, at) else {
+            return next;
+        };
+        let start = chunk.start;
+        let end = chunk.end;
+        next = put_track(out, next, &file[start..end], track, sheet);
+        at = end;
     }
     next
 }
@@ -109,20 +94,14 @@ fn put_text(out: &mut [u8], file: &[u8], sheet: bool) -> usize
     requires fact_2 { Readable (read_file file.now) }
     ensures { Written out.old 0 (written_as (form_of sheet) (piece_read file.now)) out.new result }
 {
-    match smf::header::read_header(file) {
-        HeaderStep::BadHeader { number, place } => 0,
-        HeaderStep::Fields {
-            format,
-            count,
-            division,
-            next,
-        } => {
-            let bits = smf::header::division_bits(division);
-            let p = put_header_line(out, format, count, bits, sheet);
-            let q = put_tracks(out, p, file, count, next, sheet);
-            put_end_line(out, q, sheet)
-        }
-    }
+    let Ok(header) = smf::header::read_header(file) else {
+        return 0;
+    };
+    let count = header.count;
+    let bits = smf::header::division_bits(header.division);
+    let p = put_header_line(out, header.format, count, bits, sheet);
+    let q = put_tracks(out, p, file, count, header.next, sheet);
+    put_end_line(out, q, sheet)
 }
 
 // The most bytes that are written for so many bytes of a file.

@@ -46,6 +46,12 @@ impl Answer {
         }
     }
 
+    pub fn refuse(why: Refusal, place: usize) -> Answer
+        ensures { result ≡ refusal (number_of why) place }
+    {
+        Answer::refusal(why.number(), place)
+    }
+
     pub fn room_needed(length: usize) -> Answer
         ensures { result ≡ room_needed length }
     {
@@ -68,7 +74,7 @@ impl Refused {
     pub fn answer(self) -> Answer
         ensures { result ≡ refusal (number_of self.why) self.place }
     {
-        Answer::refusal(self.why.number(), self.place)
+        Answer::refuse(self.why, self.place)
     }
 }
 

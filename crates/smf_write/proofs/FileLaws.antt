@@ -1,4 +1,5 @@
 -- Writing a file's own tracks and the whole file again, and the answers of tidying.
+use Rattle.std.specs.Prelude.{Ok}
 use mathlib.Core.Path.{◌≡◌, refl, sym, ap, ap₂, subst, ◌∙◌}
 use Prim.Native.Nat.{ℕ, ◌-◌, ◌*◌, ◌<◌, ◌≤◌}
 use mathlib.Core.List.{List, [], ◌++◌, append-nil}
@@ -24,7 +25,6 @@ use Rattle.smf.specs.PieceRead.{piece_read}
 use Rattle.smf.specs.Step.{division_from, header_step}
 use Rattle.smf.specs.declared.Answer.{Answer}
 use Rattle.smf.specs.declared.Division.{Division}
-use Rattle.smf.specs.declared.HeaderStep.TheVariants.{Fields}
 use Rattle.smf.proofs.RefusalLaws.{judged_refused}
 use Rattle.smf.proofs.MannerLaws.{tracks_double}
 use Rattle.smf.proofs.ListLaws.{R, none_left, Accepted}
@@ -55,7 +55,7 @@ tracks_small m s left at bs h =
 -- ---- the whole file
 
 -- the bytes of the file, as the code writes them
-pub file_bytes : (m : Manner) (s : List ℕ) (a b : ℕ) (d : Division) (n : ℕ) → Bytes s → header_step (length s) (read_header s) ≡ Fields a b d n → Accepted s b n
+pub file_bytes : (m : Manner) (s : List ℕ) (a b : ℕ) (d : Division) (n : ℕ) → Bytes s → header_step (length s) (read_header s) ≡ Ok (record { format = a; count = b; division = d; next = n }) → Accepted s b n
     → file_of m (piece_read s) ≡ lay_header a b (division_from d) [] (TracksLeft m s b n)
 unfolding file_of lay_piece spelling value_or lay_chunks
 file_bytes m s a b d n bs e there =

@@ -1,14 +1,16 @@
 -- Writing a file's own events again: the turns of the loops over events and tracks.
-use mathlib.Core.Path.{◌≡◌, sym, ap, ap₂, ◌∙◌}
+use mathlib.Core.Path.{◌≡◌, refl, sym, ap, ap₂, ◌∙◌}
 use Prim.Native.Nat.{ℕ, ◌-◌, ◌*◌, ◌≤◌}
 use mathlib.Core.List.{List, [], ◌∷◌, ◌++◌, append-nil}
 use native.Mathlib.Omega.{arith}
 use lib.ListN.{length, drop}
 use Rattle.event.specs.Bytes.{Bytes}
 use Rattle.event.specs.Dates.{since_of}
-use Rattle.event.specs.declared.Delta.{Delta}
-use Rattle.event.specs.declared.Since.TheVariants.{After, Before}
-use Rattle.event.proofs.DatesLaws.{since_before, since_after}
+use Rattle.std.specs.Prelude.{unwrap_or}
+use Rattle.event.specs.Choice.{pick}
+use Rattle.event.proofs.ChoiceLaws.{by_test}
+use borrow.Author.Tests.{leb-false}
+use lib.Dec.{leb}
 use Rattle.event.specs.Event.{Event}
 use Rattle.event.specs.Frame.{frame, after}
 use Rattle.event.specs.Layout.{lay_event}
@@ -61,8 +63,8 @@ left_small m s at t f bs h =
 
 -- ---- the delta
 
-pub step_after : (t u : ℕ) (d : Delta) → since_of t u ≡ After d → d ≡ step_of t u
-step_after t u d e = ap (λ n. record { 0 = n }) (since_after t u d e).1
-
-pub step_before : (t u : ℕ) → since_of t u ≡ Before → record { 0 = 0 } ≡ step_of t u
-step_before t u e = let h = since_before t u e in let z : 0 ≡ t - u = omega arith in ap (λ n. record { 0 = n }) z
+pub step_is : (t u : ℕ) → unwrap_or (since_of t u) (record { 0 = 0 }) ≡ step_of t u
+unfolding since_of pick
+step_is t u =
+    by_test (leb u t) (λ q. rw q refl)
+    (λ q. let h = leb-false u t q in let z : 0 ≡ t - u = omega arith in rw q (ap (λ n. record { 0 = n }) z))

@@ -11,9 +11,10 @@ ghost use Rattle.smf.specs.PieceRead.{piece_read};
 ghost use Rattle.smf.specs.Writing.{short_answer, short_leaves};
 ghost use Rattle.smf_write.specs.Tidy.{step_of, events_in, track_in, tracks_in};
 
-use event::{Delta, EventKind, EventStep, Since, Time};
+use event::refusal::Refusal;
+use event::{Delta, EventKind, Time};
 use event_write::bytes::{put_bytes, put_four, put_two};
-use smf::{Answer, ChunkStep, HEADER_TAG, HeaderStep, TRACK_TAG};
+use smf::{Answer, HEADER_TAG, TRACK_TAG};
 
 // The longest file that is written, in bytes.
 const FILE_LIMIT: usize = 1048576;
@@ -43,10 +44,7 @@ pub fn put_event(
 pub fn step(time: Time, earlier: Time) -> Delta
     ensures { result ≡ step_of time.0 earlier.0 }
 {
-    match time.since(earlier) {
-        Since::After(d) => d,
-        Since::Before => Delta(0),
-    }
+    time.since(earlier).unwrap_or(Delta(0))
 }
 
 // The events of a track's body, which are known to read.
@@ -60,29 +58,18 @@ fn put_events(out: &mut [u8], from: usize, body: &[u8], short: bool) -> usize
     let mut at: usize = 0;
     let mut time = Time(0);
     let mut status: u8 = 0;
-    let sorts = event::sort::SORTS;
     loop {
-        match event::read::read_event_by(body, at, time, status, &sorts) {
-            EventStep::Stop { number } => {
-                return next;
-            }
-            EventStep::Read {
-                time: t,
-                kind,
-                next: n,
-                status: s,
-                padding,
-            } => {
-                let delta = step(t, time);
-                next = put_event(out, next, delta, kind, status, body, short);
-                if event::read::is_end(kind) {
-                    return next;
-                }
-                at = n;
-                time = t;
-                status = s;
-            }
+        let Ok(read) = event::read::read_event(body, at, time, status) else {
+            return next;
+        };
+        let delta = step(read.time, time);
+        next = put_event(out, next, delta, read.kind, status, body, short);
+        if event::read::is_end(read.kind) {
+            return next;
         }
+        at = read.next;
+        time = read.time;
+        status = read.status;
     }
 }
 
@@ -119,18 +106,14 @@ fn put_tracks(
 {
     let mut next = from;
     let mut at = first;
-    let mut left = count;
-    while 0 < left {
-        match smf::track::next_track(file, at) {
-            ChunkStep::BadChunk { number, place } => {
-                return next;
-            }
-            ChunkStep::Body { start, end } => {
-                next = put_track(out, next, &file[start..end], short);
-                at = end;
-                left = left - 1;
-            }
-        }
+    for _ in 0..count {
+        let Ok(chunk) = smf::track::next_track(file, at) else {
+            return next;
+        };
+        let start = chunk.start;
+        let end = chunk.end;
+        next = put_track(out, next, &file[start..end], short);
+        at = end;
     }
     next
 }
@@ -141,23 +124,16 @@ fn put_file(out: &mut [u8], file: &[u8], short: bool) -> usize
     requires fact_2 { Readable (read_file file.now) }
     ensures { Written out.old 0 (file_of (manner_of short) (piece_read file.now)) out.new result }
 {
-    match smf::header::read_header(file) {
-        HeaderStep::BadHeader { number, place } => 0,
-        HeaderStep::Fields {
-            format,
-            count,
-            division,
-            next,
-        } => {
-            let bits = smf::header::division_bits(division);
-            let a = put_four(out, 0, HEADER_TAG);
-            let b = put_four(out, a, 6);
-            let c = put_two(out, b, format);
-            let d = put_two(out, c, count);
-            let e = put_two(out, d, bits);
-            put_tracks(out, e, file, count, next, short)
-        }
-    }
+    let Ok(header) = smf::header::read_header(file) else {
+        return 0;
+    };
+    let bits = smf::header::division_bits(header.division);
+    let a = put_four(out, 0, HEADER_TAG);
+    let b = put_four(out, a, 6);
+    let c = put_two(out, b, header.format);
+    let d = put_two(out, c, header.count);
+    let e = put_two(out, d, bits);
+    put_tracks(out, e, file, header.count, header.next, short)
 }
 
 // The file's piece in manner 1, into lent room; on any refusal the room keeps what it held.
@@ -172,7 +148,7 @@ pub fn tidy(file: &[u8], out: &mut [u8]) -> Answer
     }
     let need = put_file(&mut out[..0], file, true);
     if FILE_LIMIT < need {
-        return Answer::refusal(29, 0);
+        return Answer::refuse(Refusal::WrittenTooLong, 0);
     }
     let too_small = out.len() < need;
     if too_small {

@@ -1,5 +1,5 @@
 -- Looking for a Channel_prefix or MIDI_port alone.
-use Rattle.std.specs.Prelude.{ℕ, Bool, true, false, []}
+use Rattle.std.specs.Prelude.{Option, Some, None, ℕ, Bool, true, false, []}
 use Rattle.event.specs.Outcome.{Outcome, ok, refused}
 use Rattle.event.specs.declared.EventKind.{EventKind}
 use Rattle.event.specs.declared.EventKind.TheVariants.{NoteOff, NoteOn, PolyAftertouch, Control, Program, ChannelAftertouch, PitchBend, SystemExclusive, SystemExclusivePacket, SequenceNumber, Text, ChannelPrefix, MidiPort, EndTrack, Tempo, SmpteOffset, TimeSignature, KeySignature, SequencerSpecific, UnknownMeta}
@@ -14,6 +14,11 @@ fine = ok 0 []
 unfoldable pub look_answer : Outcome ℕ → Answer
 look_answer (ok n r) = success 0
 look_answer (refused k p) = refusal k p
+
+-- a place that was found, as the refusal that it stands for
+abbrev pub looked : Option ℕ → Answer
+looked (Some p) = refusal 33 p
+looked None = success 0
 
 -- whether an answer of the event side is one of the two
 abbrev pub prefix_or_port_of : EventKind → Bool

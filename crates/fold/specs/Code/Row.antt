@@ -1,12 +1,12 @@
 -- A row of the merge, and the folded file as it is written.
+use Rattle.std.specs.Prelude.{Result, Ok, Err}
+use Rattle.event.specs.declared.EventRead.{EventRead}
 use Rattle.std.specs.Prelude.{ℕ, ◌≤◌, List, [], ◌++◌, length, drop}
 use Rattle.event.specs.Choice.{pick}
 use Rattle.event.specs.Event.{Event}
 use Rattle.event.specs.Manner.{short}
 use Rattle.event.specs.Outcome.{Readable, value_or}
 use Rattle.event.specs.Step.{end_of}
-use Rattle.event.specs.declared.EventStep.{EventStep}
-use Rattle.event.specs.declared.EventStep.TheVariants.{Read, Stop}
 use Rattle.smf.specs.Division.{division_of}
 use Rattle.smf.specs.Layout.{lay_header}
 use Rattle.smf.specs.Reader.{read_tracks}
@@ -19,9 +19,9 @@ use Rattle.fold.specs.declared.Row.{Row}
 
 -- the row of a track whose next event is the one answered, at the place at, after the Time time, with the status in force: that event's
 -- place and Time and the status before it, or status 1 where it is End_track
-unfoldable pub row_of : ℕ → ℕ → ℕ → EventStep → Row
-row_of at time status (Read t k next st padding) = record { place = at; time = t.0; status = pick (end_of k) 1 status }
-row_of at time status (Stop number) = record { place = at; time = time; status = 1 }
+unfoldable pub row_of : ℕ → ℕ → ℕ → Result EventRead ℕ → Row
+row_of at time status (Ok e) = record { place = at; time = e.time.0; status = pick (end_of e.kind) 1 status }
+row_of at time status (Err number) = record { place = at; time = time; status = 1 }
 
 -- a file of format 0 with the one track, its division by its 16 bits
 abbrev pub file_in : ℕ → List Event → List ℕ

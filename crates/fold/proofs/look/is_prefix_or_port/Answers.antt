@@ -1,5 +1,6 @@
 use mathlib.Core.Path.{◌≡◌, refl}
 use mathlib.Core.Bool.{false}
+use mathlib.Core.Logic.{inl, inr}
 use mathlib.Core.List.{List, [], ◌∷◌}
 use Prim.Native.Nat.{ℕ}
 use denote.Enum.Declared.{tag_of}
@@ -37,10 +38,7 @@ no-aim (SequencerSpecific a b) h = refl
 no-aim (UnknownMeta a b c) h = refl
 
 pub returns-in-ChannelPrefix : goal.returns-in-ChannelPrefix
-returns-in-ChannelPrefix c = rw c.in-ChannelPrefix.is
-
-pub returns-in-MidiPort : goal.returns-in-MidiPort
-returns-in-MidiPort c = rw c.in-MidiPort.is
+returns-in-ChannelPrefix c = elim c.in-ChannelPrefix.is [ inl h ↦ rw h.1 refl | inr h ↦ rw h.1 refl ]
 
 pub returns-in_default : goal.returns-in_default
-returns-in_default c = no-aim c.args.kind (opened c.in_default.in_default-own.keys3)
+returns-in_default c = no-aim c.args.kind (opened c.in_default.in_default-own.keys2)

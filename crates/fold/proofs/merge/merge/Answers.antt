@@ -16,7 +16,6 @@ use Rattle.fold.proofs.MergeLaws.{whole_small, going_first, not_stopped, taken_h
 use Rattle.fold.proofs.EndLaws.{written_all, places_shown, times_shown, statuses_shown}
 use native.Mathlib.Omega.{arith}
 use mathlib.Core.Path.{refl, subst, ◌∙◌, ap}
-use Rattle.event.specs.Sort.{sort_table}
 use borrow.Author.Rules.{rules}
 use Rattle.fold.proofs.merge.merge.Goals as goal
 
@@ -87,19 +86,11 @@ pub bounds-statuses-i : goal.bounds-statuses-i
 unfolding manner_of
 bounds-statuses-i c = let l = c.turn in omega (arith, l.invariant.3, c.start_rows.auto.statuses, c.requires.fact_4.2, c.if-none_left.false)
 
-pub read_event_by-requires : goal.read_event_by-requires
-unfolding manner_of sort_table
-read_event_by-requires c = refl
-
-pub returns-in-Stop : goal.returns-in-Stop
+pub returns-in_default : goal.returns-in_default
 unfolding manner_of
-returns-in-Stop c = let l = c.turn in
+returns-in_default c = let l = c.turn in
     let bytes = bytes_of c.args.file.now (λ k. omega (arith, c.type_inv.file k)) in
-    absurd (not_stopped bytes l.invariant.4 l.i c.if-none_left.false l.invariant.5 c.read_event_by.ensures c.in-Stop.is)
-
-pub step-requires-in-Read : goal.step-requires-in-Read
-unfolding manner_of
-step-requires-in-Read c = search rules
+    absurd (not_stopped bytes l.invariant.4 l.i c.if-none_left.false l.invariant.5 c.in_default.ensures refl)
 
 pub put_event-next-requires : goal.put_event-next-requires
 unfolding manner_of
@@ -107,33 +98,29 @@ put_event-next-requires c = let a = c.args in let g = c.turn.invariant.4 in
     let bytes = bytes_of a.file.now (λ k. omega (arith, c.type_inv.file k)) in
     record { fact_1 = omega (arith, g.remains.place, whole_small a.file.now a.count a.first bytes c.requires.fact_3, length-drop a.first a.file.now, c.requires.fact_1, c.requires.fact_2); fact_2 = omega (arith, c.requires.fact_2) }
 
-pub read_event_by-requires-in-Read : goal.read_event_by-requires-in-Read
-unfolding manner_of sort_table
-read_event_by-requires-in-Read c = refl
-
 pub row_of-row-requires : goal.row_of-row-requires
 unfolding manner_of
 row_of-row-requires c = search rules
 
-pub offset_bounds-places-i-in-Read : goal.offset_bounds-places-i-in-Read
+pub offset_bounds-places-i-in-turn : goal.offset_bounds-places-i-in-turn
 unfolding manner_of
-offset_bounds-places-i-in-Read c = omega (arith, c.requires.fact_4.0, c.if-none_left.false, c.well_formed.1.0.1)
+offset_bounds-places-i-in-turn c = omega (arith, c.requires.fact_4.0, c.if-none_left.false, c.well_formed.1.0.1)
 
-pub bounds-places-i-in-Read : goal.bounds-places-i-in-Read
+pub bounds-places-i-in-turn : goal.bounds-places-i-in-turn
 unfolding manner_of
-bounds-places-i-in-Read c = let l = c.turn in omega (arith, l.invariant.1, c.start_rows.auto.places, c.requires.fact_4.0, c.if-none_left.false)
+bounds-places-i-in-turn c = let l = c.turn in omega (arith, l.invariant.1, c.start_rows.auto.places, c.requires.fact_4.0, c.if-none_left.false)
 
-pub offset_bounds-times-i-in-Read : goal.offset_bounds-times-i-in-Read
+pub offset_bounds-times-i-in-turn : goal.offset_bounds-times-i-in-turn
 unfolding manner_of
-offset_bounds-times-i-in-Read c = omega (arith, c.requires.fact_4.1, c.if-none_left.false, c.well_formed.1.1.0.1)
+offset_bounds-times-i-in-turn c = omega (arith, c.requires.fact_4.1, c.if-none_left.false, c.well_formed.1.1.0.1)
 
-pub bounds-times-i-in-Read : goal.bounds-times-i-in-Read
+pub bounds-times-i-in-turn : goal.bounds-times-i-in-turn
 unfolding manner_of
-bounds-times-i-in-Read c = let l = c.turn in omega (arith, l.invariant.2, c.start_rows.auto.times, c.requires.fact_4.1, c.if-none_left.false)
+bounds-times-i-in-turn c = let l = c.turn in omega (arith, l.invariant.2, c.start_rows.auto.times, c.requires.fact_4.1, c.if-none_left.false)
 
-pub bounds-statuses-i-in-Read : goal.bounds-statuses-i-in-Read
+pub bounds-statuses-i-in-turn : goal.bounds-statuses-i-in-turn
 unfolding manner_of
-bounds-statuses-i-in-Read c = let l = c.turn in omega (arith, l.invariant.3, c.start_rows.auto.statuses, c.requires.fact_4.2, c.if-none_left.false)
+bounds-statuses-i-in-turn c = let l = c.turn in omega (arith, l.invariant.3, c.start_rows.auto.statuses, c.requires.fact_4.2, c.if-none_left.false)
 
 pub least_after-i-requires : goal.least_after-i-requires
 unfolding manner_of
@@ -143,15 +130,15 @@ least_after-i-requires c = let l = c.turn in let r = c.row_of-row.result in
 pub turn-smaller : goal.turn-smaller
 unfolding manner_of
 turn-smaller c = let l = c.turn in let h = c.if-none_left.false in let bytes = bytes_of c.args.file.now (λ k. omega (arith, c.type_inv.file k)) in
-    let w = taken_here bytes l.invariant.4 l.i h l.invariant.5 c.read_event_by.ensures c.in-Read.is in
-    omega (arith, going_more bytes l.invariant.4 l.i h l.invariant.5 c.in-Read.kind c.in-Read.n c.in-Read.s w _ c.put_event-next.new.out c.put_event-next.result (ap (λ (x : Delta). x.0) c.step-in-Read.ensures) c.put_event-next.ensures)
+    let w = taken_here bytes l.invariant.4 l.i h l.invariant.5 c.in-Ok.ensures refl in
+    omega (arith, going_more bytes l.invariant.4 l.i h l.invariant.5 c.in-Ok.read.kind c.in-Ok.read.next c.in-Ok.read.status w _ c.put_event-next.new.out c.put_event-next.result (ap (λ (x : Delta). x.0) c.step-in-turn.ensures) c.put_event-next.ensures)
 
 pub turn-preserved : goal.turn-preserved
 unfolding manner_of
 turn-preserved c = let l = c.turn in let h = c.if-none_left.false in let r = c.row_of-row.result in
     let k = c.start_rows.auto in
     let bytes = bytes_of c.args.file.now (λ k. omega (arith, c.type_inv.file k)) in
-    let w = taken_here bytes l.invariant.4 l.i h l.invariant.5 c.read_event_by.ensures c.in-Read.is in
+    let w = taken_here bytes l.invariant.4 l.i h l.invariant.5 c.in-Ok.ensures refl in
     let hp : c.args.count ≤ length l.places = omega (arith, l.invariant.1, c.start_rows.auto.places, c.requires.fact_4.0) in
     let ht : c.args.count ≤ length l.times = omega (arith, l.invariant.2, c.start_rows.auto.times, c.requires.fact_4.1) in
     let hs : c.args.count ≤ length l.statuses = omega (arith, l.invariant.3, c.start_rows.auto.statuses, c.requires.fact_4.2) in (
@@ -159,6 +146,6 @@ turn-preserved c = let l = c.turn in let h = c.if-none_left.false in let r = c.r
       length-set l.places l.i r.place ∙ l.invariant.1,
       length-set l.times l.i r.time ∙ l.invariant.2,
       length-set l.statuses l.i r.status ∙ l.invariant.3,
-      going_on bytes l.invariant.4 l.i h l.invariant.5 c.in-Read.kind c.in-Read.n c.in-Read.s w r hp ht hs (c.row_of-row.ensures ∙ ap (row_of _ _ _) c.read_event_by-in-Read.ensures) _ c.put_event-next.new.out c.put_event-next.result (ap (λ (x : Delta). x.0) c.step-in-Read.ensures) c.put_event-next.ensures,
+      going_on bytes l.invariant.4 l.i h l.invariant.5 c.in-Ok.read.kind c.in-Ok.read.next c.in-Ok.read.status w r hp ht hs (c.row_of-row.ensures ∙ ap (row_of _ _ _) c.read_event-in-turn.ensures) _ c.put_event-next.new.out c.put_event-next.result (ap (λ (x : Delta). x.0) c.step-in-turn.ensures) c.put_event-next.ensures,
       least_again c.args.count l.times l.statuses l.i r.time r.status _ _ h ht hs refl l.invariant.5 c.least_after-i.ensures,
     )

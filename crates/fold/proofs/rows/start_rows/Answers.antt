@@ -1,3 +1,4 @@
+use Rattle.event.specs.Refusal.{number_of}
 use Prim.Native.Nat.{◌-◌}
 use lib.ListN.{length-set}
 use Rattle.event.proofs.BytesLaws.{bytes_of}
@@ -10,8 +11,8 @@ use Rattle.fold.proofs.rows.start_rows.Goals as goal
 pub loop-i-init : goal.loop-i-init
 loop-i-init c = (omega arith, refl, refl, refl, starting _ _ _ _ _ _ c.requires.fact_1)
 
-pub returns-in-BadChunk : goal.returns-in-BadChunk
-returns-in-BadChunk c = let a = c.args in let l = c.loop-i in absurd (tracks_stop a.file.now (a.count - l.i) l.at c.in-BadChunk.number c.in-BadChunk.place (omega (arith, c.loop-i-test.true)) (sym c.next_track.ensures ∙ c.in-BadChunk.is) l.invariant.4.readable)
+pub returns-in_default : goal.returns-in_default
+returns-in_default c = let a = c.args in let l = c.loop-i in absurd (tracks_stop a.file.now (a.count - l.i) l.at (number_of c.in_default.field-0.why) c.in_default.field-0.place (omega (arith, c.loop-i-test.true)) (sym c.in_default.ensures) l.invariant.4.readable)
 
 pub bounds-places-i : goal.bounds-places-i
 bounds-places-i c = omega (arith, c.loop-i.invariant.1, c.requires.fact_2, c.loop-i-test.true)
@@ -29,7 +30,7 @@ loop-i-preserved c = let a = c.args in let l = c.loop-i in let r = c.row_at-row.
       length-set l.places l.i r.place ∙ l.invariant.1,
       length-set l.times l.i r.time ∙ l.invariant.2,
       length-set l.statuses l.i r.status ∙ l.invariant.3,
-      start_more a.file.now a.count a.first l.at l.i c.in-Body.start c.in-Body.end l.places l.times l.statuses _ _ _ r bytes c.loop-i-test.true (omega (arith, l.invariant.1, c.requires.fact_2)) (omega (arith, l.invariant.2, c.requires.fact_3)) (omega (arith, l.invariant.3, c.requires.fact_4)) (sym c.next_track.ensures ∙ c.in-Body.is) c.row_at-row.ensures l.invariant.4,
+      start_more a.file.now a.count a.first l.at l.i c.in-Ok.chunk.start c.in-Ok.chunk.end l.places l.times l.statuses _ _ _ r bytes c.loop-i-test.true (omega (arith, l.invariant.1, c.requires.fact_2)) (omega (arith, l.invariant.2, c.requires.fact_3)) (omega (arith, l.invariant.3, c.requires.fact_4)) (sym c.in-Ok.ensures) c.row_at-row.ensures l.invariant.4,
     )
 
 pub returns : goal.returns

@@ -10,7 +10,7 @@ use Rattle.fold.proofs.write.put_measured.Goals as goal
 
 pub returns-then-need-gt-FILE_LIMIT : goal.returns-then-need-gt-FILE_LIMIT
 returns-then-need-gt-FILE_LIMIT c = let a = c.args in let w = write_long _ a.out.now _ (measured c.put_file-need.ensures.fact_1) c.if-need-gt-FILE_LIMIT.true in
-    record { fact_1 = c.refusal.ensures ∙ w.0; fact_2 = unmeasured a.out.now c.put_file-need.ensures.fact_1 ∙ w.1; fact_3 = c.put_file-need.ensures.fact_2; fact_4 = c.put_file-need.ensures.fact_3; fact_5 = c.put_file-need.ensures.fact_4 }
+    record { fact_1 = c.refuse.ensures ∙ w.0; fact_2 = unmeasured a.out.now c.put_file-need.ensures.fact_1 ∙ w.1; fact_3 = c.put_file-need.ensures.fact_2; fact_4 = c.put_file-need.ensures.fact_3; fact_5 = c.put_file-need.ensures.fact_4 }
 
 pub returns-then-out-need : goal.returns-then-out-need
 returns-then-out-need c = let a = c.args in let kept = ap length (unmeasured a.out.now c.put_file-need.ensures.fact_1) in

@@ -8,29 +8,24 @@ use Rattle.smf.proofs.TurnLaws.{turn_stop, turn_next, turn_end}
 use Rattle.midicsv_write.proofs.TextLaws.{next_line, last_line, events_few}
 use mathlib.Core.Path.{refl, sym, ◌∙◌}
 use native.Mathlib.Omega.{arith}
-use Rattle.event.specs.Sort.{sort_table}
 use Rattle.midicsv_write.proofs.to_text.put_events.Goals as goal
 
-pub loop-number-init : goal.loop-number-init
-loop-number-init c = (omega arith, refl, c.requires.fact_4, all_remains _ _ _)
+pub loop-read-init : goal.loop-read-init
+loop-read-init c = (omega arith, refl, c.requires.fact_4, all_remains _ _ _)
 
-pub read_event_by-requires : goal.read_event_by-requires
-unfolding sort_table
-read_event_by-requires c = refl
-
-pub returns-in-Stop : goal.returns-in-Stop
-returns-in-Stop c =
+pub returns-in_default : goal.returns-in_default
+returns-in_default c =
     let a = c.args in
     let s = a.body.now in
-    let l = c.loop-number in
+    let l = c.loop-read in
     let bytes = bytes_of s (λ i. omega (arith, c.type_inv.body i)) in
-    absurd (turn_stop s l.at l.time.0 l.status bytes c.read_event_by.ensures c.in-Stop.is l.invariant.2)
+    absurd (turn_stop s l.at l.time.0 l.status bytes c.in_default.ensures refl l.invariant.2)
 
 pub put_event_line-next-requires : goal.put_event_line-next-requires
 put_event_line-next-requires c =
     let a = c.args in
     let s = a.body.now in
-    let l = c.loop-number in
+    let l = c.loop-read in
     let bytes = bytes_of s (λ i. omega (arith, c.type_inv.body i)) in
     record { fact_1 = omega (arith, l.invariant.3.place, events_few (form_of a.sheet) a.track s 0 0 0 c.requires.fact_3 bytes c.requires.fact_4, most_few (form_of a.sheet) (length (drop 0 s)), c.requires.fact_1, c.requires.fact_2); fact_2 = c.requires.fact_2 }
 
@@ -38,27 +33,27 @@ pub returns-then-is_end : goal.returns-then-is_end
 returns-then-is_end c =
     let a = c.args in
     let s = a.body.now in
-    let l = c.loop-number in
+    let l = c.loop-read in
     let bytes = bytes_of s (λ i. omega (arith, c.type_inv.body i)) in
-    let e = event_came s l.at l.time.0 l.status bytes l.invariant.0 c.read_event_by.ensures c.in-Read.is in
+    let e = event_came s l.at l.time.0 l.status bytes l.invariant.0 c.in-Ok.ensures refl in
     let all = turn_end bytes e l.invariant.2 (sym c.is_end.ensures ∙ c.if-is_end.true) in
     finish _ _ l.invariant.3 (last_line (form_of a.sheet) a.track e all) c.put_event_line-next.ensures
 
-pub loop-number-smaller : goal.loop-number-smaller
-loop-number-smaller c =
+pub loop-read-smaller : goal.loop-read-smaller
+loop-read-smaller c =
     let a = c.args in
     let s = a.body.now in
-    let l = c.loop-number in
+    let l = c.loop-read in
     let bytes = bytes_of s (λ i. omega (arith, c.type_inv.body i)) in
-    let e = event_came s l.at l.time.0 l.status bytes l.invariant.0 c.read_event_by.ensures c.in-Read.is in
+    let e = event_came s l.at l.time.0 l.status bytes l.invariant.0 c.in-Ok.ensures refl in
     omega (arith, e.later, e.inside)
 
-pub loop-number-preserved : goal.loop-number-preserved
-loop-number-preserved c =
+pub loop-read-preserved : goal.loop-read-preserved
+loop-read-preserved c =
     let a = c.args in
     let s = a.body.now in
-    let l = c.loop-number in
+    let l = c.loop-read in
     let bytes = bytes_of s (λ i. omega (arith, c.type_inv.body i)) in
-    let e = event_came s l.at l.time.0 l.status bytes l.invariant.0 c.read_event_by.ensures c.in-Read.is in
+    let e = event_came s l.at l.time.0 l.status bytes l.invariant.0 c.in-Ok.ensures refl in
     let n = turn_next bytes e l.invariant.2 (sym c.is_end.ensures ∙ c.if-is_end.false) in
     (e.inside, c.put_event_line-next.auto.out ∙ l.invariant.1, n.0, go_on_lem _ _ _ l.invariant.3 (next_line (form_of a.sheet) a.track e n.1) c.put_event_line-next.ensures)

@@ -1,6 +1,7 @@
+use Rattle.event.specs.Refusal.{number_of}
 use Rattle.midicsv.specs.Code.Form.{form_of}
 use Rattle.midicsv.proofs.BoundLaws.{most_few}
-use mathlib.Core.Path.{sym, ◌∙◌}
+use mathlib.Core.Path.{sym}
 use lib.ListN.{length, drop, length-drop}
 use Rattle.event.proofs.BytesLaws.{bytes_of}
 use Rattle.event_write.proofs.WriteLaws.{then}
@@ -18,29 +19,29 @@ pub division_bits-bits-requires : goal.division_bits-bits-requires
 division_bits-bits-requires c =
     let s = c.args.file.now in
     let bytes = bytes_of s (λ i. omega (arith, c.type_inv.file i)) in
-    let came = sym c.read_header.ensures ∙ c.in-Fields.is in
-    let there = file_accepted s c.in-Fields.format c.in-Fields.count c.in-Fields.division c.in-Fields.next bytes came c.requires.fact_2 in
-    (headed s c.in-Fields.format c.in-Fields.count c.in-Fields.division c.in-Fields.next bytes came there).lawful
+    let came = sym c.in-Ok.ensures in
+    let there = file_accepted s c.in-Ok.header.format c.in-Ok.header.count c.in-Ok.header.division c.in-Ok.header.next bytes came c.requires.fact_2 in
+    (headed s c.in-Ok.header.format c.in-Ok.header.count c.in-Ok.header.division c.in-Ok.header.next bytes came there).lawful
 
 pub put_header_line-p-requires : goal.put_header_line-p-requires
 put_header_line-p-requires c =
     let s = c.args.file.now in
     let bytes = bytes_of s (λ i. omega (arith, c.type_inv.file i)) in
-    let came = sym c.read_header.ensures ∙ c.in-Fields.is in
-    let there = file_accepted s c.in-Fields.format c.in-Fields.count c.in-Fields.division c.in-Fields.next bytes came c.requires.fact_2 in
-    let lawful = (headed s c.in-Fields.format c.in-Fields.count c.in-Fields.division c.in-Fields.next bytes came there).lawful in
-    omega (arith, c.division_bits-bits.ensures, division_fits (division_from c.in-Fields.division) lawful)
+    let came = sym c.in-Ok.ensures in
+    let there = file_accepted s c.in-Ok.header.format c.in-Ok.header.count c.in-Ok.header.division c.in-Ok.header.next bytes came c.requires.fact_2 in
+    let lawful = (headed s c.in-Ok.header.format c.in-Ok.header.count c.in-Ok.header.division c.in-Ok.header.next bytes came there).lawful in
+    omega (arith, c.division_bits-bits.ensures, division_fits (division_from c.in-Ok.header.division) lawful)
 
 pub put_tracks-q-requires : goal.put_tracks-q-requires
 put_tracks-q-requires c =
     let s = c.args.file.now in
     let w = form_of c.args.sheet in
     let bytes = bytes_of s (λ i. omega (arith, c.type_inv.file i)) in
-    let came = sym c.read_header.ensures ∙ c.in-Fields.is in
-    let x = c.in-Fields.format in
-    let b = c.in-Fields.count in
-    let d = c.in-Fields.division in
-    let n = c.in-Fields.next in
+    let came = sym c.in-Ok.ensures in
+    let x = c.in-Ok.header.format in
+    let b = c.in-Ok.header.count in
+    let d = c.in-Ok.header.division in
+    let n = c.in-Ok.header.next in
     let there = file_accepted s x b d n bytes came c.requires.fact_2 in
     record { fact_1 = omega (arith, c.put_header_line-p.ensures.place, header_line_length w x b c.division_bits-bits.result); fact_2 = (head_at s x b d n bytes came).inside; fact_3 = c.requires.fact_1; fact_4 = tracks_counted s b n bytes there; fact_5 = accepted_readable s b n there }
 
@@ -49,26 +50,26 @@ put_end_line-requires c =
     let s = c.args.file.now in
     let w = form_of c.args.sheet in
     let bytes = bytes_of s (λ i. omega (arith, c.type_inv.file i)) in
-    let came = sym c.read_header.ensures ∙ c.in-Fields.is in
-    let x = c.in-Fields.format in
-    let b = c.in-Fields.count in
-    let d = c.in-Fields.division in
-    let n = c.in-Fields.next in
+    let came = sym c.in-Ok.ensures in
+    let x = c.in-Ok.header.format in
+    let b = c.in-Ok.header.count in
+    let d = c.in-Ok.header.division in
+    let n = c.in-Ok.header.next in
     let there = file_accepted s x b d n bytes came c.requires.fact_2 in
     omega (arith, c.put_tracks-q.ensures.place, c.put_header_line-p.ensures.place, header_line_length w x b c.division_bits-bits.result, tracks_few w 1 s b n (omega (arith, tracks_counted s b n bytes there)) bytes (accepted_readable s b n there), most_few w (length (drop n s)), length-drop n s, c.requires.fact_1)
 
-pub returns-in-BadHeader : goal.returns-in-BadHeader
-returns-in-BadHeader c = absurd (header_there c.args.file.now c.in-BadHeader.number c.in-BadHeader.place (sym c.read_header.ensures ∙ c.in-BadHeader.is) c.requires.fact_2)
+pub returns-in_default : goal.returns-in_default
+returns-in_default c = absurd (header_there c.args.file.now (number_of c.in_default.field-0.why) c.in_default.field-0.place (sym c.in_default.ensures) c.requires.fact_2)
 
-pub returns-in-Fields : goal.returns-in-Fields
-returns-in-Fields c =
+pub returns : goal.returns
+returns c =
     let s = c.args.file.now in
     let w = form_of c.args.sheet in
     let bytes = bytes_of s (λ i. omega (arith, c.type_inv.file i)) in
-    let came = sym c.read_header.ensures ∙ c.in-Fields.is in
-    let x = c.in-Fields.format in
-    let b = c.in-Fields.count in
-    let d = c.in-Fields.division in
-    let n = c.in-Fields.next in
+    let came = sym c.in-Ok.ensures in
+    let x = c.in-Ok.header.format in
+    let b = c.in-Ok.header.count in
+    let d = c.in-Ok.header.division in
+    let n = c.in-Ok.header.next in
     let there = file_accepted s x b d n bytes came c.requires.fact_2 in
     rw (text_lines w s x b d n bytes came there, ← c.division_bits-bits.ensures) (then c.put_header_line-p.ensures (then c.put_tracks-q.ensures c.put_end_line.ensures))

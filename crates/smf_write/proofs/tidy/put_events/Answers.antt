@@ -10,60 +10,55 @@ use Rattle.smf.proofs.TurnLaws.{turn_stop, turn_next, turn_end}
 use Rattle.smf_write.proofs.TidyLaws.{Left, next_left, end_left, left_small}
 use native.Mathlib.Omega.{arith}
 use mathlib.Core.Path.{refl, sym, ◌∙◌, ap}
-use Rattle.event.specs.Sort.{sort_table}
 use Rattle.smf_write.proofs.tidy.put_events.Goals as goal
 
-pub loop-number-init : goal.loop-number-init
-loop-number-init c = (omega arith, refl, c.requires.fact_3, all_remains _ _ _)
+pub loop-read-init : goal.loop-read-init
+loop-read-init c = (omega arith, refl, c.requires.fact_3, all_remains _ _ _)
 
-pub read_event_by-requires : goal.read_event_by-requires
-unfolding sort_table
-read_event_by-requires c = refl
-
-pub returns-in-Stop : goal.returns-in-Stop
-returns-in-Stop c = let a = c.args in
+pub returns-in_default : goal.returns-in_default
+returns-in_default c = let a = c.args in
     let s = a.body.now in
-    let l = c.loop-number in
+    let l = c.loop-read in
     let bytes = bytes_of s (λ i. omega (arith, c.type_inv.body i)) in
-    absurd (turn_stop s l.at l.time.0 l.status bytes c.read_event_by.ensures c.in-Stop.is l.invariant.2)
+    absurd (turn_stop s l.at l.time.0 l.status bytes c.in_default.ensures refl l.invariant.2)
 
 pub put_event-next-requires : goal.put_event-next-requires
 put_event-next-requires c = let a = c.args in
     let s = a.body.now in
-    let l = c.loop-number in
+    let l = c.loop-read in
     let bytes = bytes_of s (λ i. omega (arith, c.type_inv.body i)) in
     record { fact_1 = omega (arith, l.invariant.3.place, left_small (manner_of a.short) s 0 0 0 bytes c.requires.fact_3, c.requires.fact_1, c.requires.fact_2); fact_2 = omega (arith, c.requires.fact_2) }
 
 pub returns-then-is_end : goal.returns-then-is_end
 returns-then-is_end c = let a = c.args in
     let s = a.body.now in
-    let l = c.loop-number in
+    let l = c.loop-read in
     let bytes = bytes_of s (λ i. omega (arith, c.type_inv.body i)) in
-    let k = c.in-Read.kind in
+    let k = c.in-Ok.read.kind in
     let delta = ap (λ (d : Delta). d.0) c.step-delta.ensures in
     let item : ℕ → List ℕ = λ z. head_bytes (manner_of a.short) l.status z k ++ data_of (kind_from s k) in
-    let e = event_came s l.at l.time.0 l.status bytes l.invariant.0 c.read_event_by.ensures c.in-Read.is in
+    let e = event_came s l.at l.time.0 l.status bytes l.invariant.0 c.in-Ok.ensures refl in
     let all = turn_end bytes e l.invariant.2 (sym c.is_end.ensures ∙ c.if-is_end.true) in
     finish _ _ l.invariant.3 (end_left (manner_of a.short) e all ∙ ap item (sym delta)) c.put_event-next.ensures
 
-pub loop-number-smaller : goal.loop-number-smaller
-loop-number-smaller c = let a = c.args in
+pub loop-read-smaller : goal.loop-read-smaller
+loop-read-smaller c = let a = c.args in
     let s = a.body.now in
-    let l = c.loop-number in
+    let l = c.loop-read in
     let bytes = bytes_of s (λ i. omega (arith, c.type_inv.body i)) in
-    let e = event_came s l.at l.time.0 l.status bytes l.invariant.0 c.read_event_by.ensures c.in-Read.is in
+    let e = event_came s l.at l.time.0 l.status bytes l.invariant.0 c.in-Ok.ensures refl in
     omega (arith, e.later, e.inside)
 
-pub loop-number-preserved : goal.loop-number-preserved
-loop-number-preserved c = let a = c.args in
+pub loop-read-preserved : goal.loop-read-preserved
+loop-read-preserved c = let a = c.args in
     let s = a.body.now in
-    let l = c.loop-number in
+    let l = c.loop-read in
     let bytes = bytes_of s (λ i. omega (arith, c.type_inv.body i)) in
-    let k = c.in-Read.kind in
-    let q = c.in-Read.n in
-    let st = c.in-Read.s in
+    let k = c.in-Ok.read.kind in
+    let q = c.in-Ok.read.next in
+    let st = c.in-Ok.read.status in
     let delta = ap (λ (d : Delta). d.0) c.step-delta.ensures in
     let item : ℕ → List ℕ = λ z. head_bytes (manner_of a.short) l.status z k ++ data_of (kind_from s k) in
-    let e = event_came s l.at l.time.0 l.status bytes l.invariant.0 c.read_event_by.ensures c.in-Read.is in
+    let e = event_came s l.at l.time.0 l.status bytes l.invariant.0 c.in-Ok.ensures refl in
     let n = turn_next bytes e l.invariant.2 (sym c.is_end.ensures ∙ c.if-is_end.false) in
-    (e.inside, c.put_event-next.auto.out ∙ l.invariant.1, n.0, go_on_lem _ _ _ l.invariant.3 (next_left (manner_of a.short) e n.1 ∙ ap (λ z. item z ++ Left (manner_of a.short) s q c.in-Read.t.0 st) (sym delta)) c.put_event-next.ensures)
+    (e.inside, c.put_event-next.auto.out ∙ l.invariant.1, n.0, go_on_lem _ _ _ l.invariant.3 (next_left (manner_of a.short) e n.1 ∙ ap (λ z. item z ++ Left (manner_of a.short) s q c.in-Ok.read.time.0 st) (sym delta)) c.put_event-next.ensures)

@@ -1,3 +1,4 @@
+use Rattle.event.specs.Refusal.{number_of}
 use Rattle.event.proofs.BytesLaws.{bytes_of, length_big_endian}
 use Rattle.event_write.proofs.WriteLaws.{then}
 use Rattle.event_write.specs.Head.{manner_of}
@@ -8,14 +9,14 @@ use Rattle.smf.proofs.ListLaws.{accepted_readable}
 use Rattle.smf.proofs.AcceptedLaws.{headed, header_there, file_accepted}
 use Rattle.smf_write.proofs.FileLaws.{file_bytes}
 use native.Mathlib.Omega.{arith}
-use mathlib.Core.Path.{sym, ◌∙◌}
+use mathlib.Core.Path.{sym}
 use Rattle.smf_write.proofs.tidy.put_file.Goals as goal
 
 pub division_bits-bits-requires : goal.division_bits-bits-requires
 division_bits-bits-requires c = let s = c.args.file.now in
     let bytes = bytes_of s (λ i. omega (arith, c.type_inv.file i)) in
-    let came = sym c.read_header.ensures ∙ c.in-Fields.is in
-    (headed s c.in-Fields.format c.in-Fields.count c.in-Fields.division c.in-Fields.next bytes came (file_accepted s c.in-Fields.format c.in-Fields.count c.in-Fields.division c.in-Fields.next bytes came c.requires.fact_2)).lawful
+    let came = sym c.in-Ok.ensures in
+    (headed s c.in-Ok.header.format c.in-Ok.header.count c.in-Ok.header.division c.in-Ok.header.next bytes came (file_accepted s c.in-Ok.header.format c.in-Ok.header.count c.in-Ok.header.division c.in-Ok.header.next bytes came c.requires.fact_2)).lawful
 
 pub put_four-b-requires : goal.put_four-b-requires
 put_four-b-requires c = omega (arith, c.put_four-a.ensures.place, length_big_endian 4 header_tag)
@@ -24,29 +25,29 @@ pub put_two-c-requires : goal.put_two-c-requires
 put_two-c-requires c = omega (arith, c.put_four-b.ensures.place, c.put_four-a.ensures.place, length_big_endian 4 header_tag, length_big_endian 4 6)
 
 pub put_two-d-requires : goal.put_two-d-requires
-put_two-d-requires c = omega (arith, c.put_two-c.ensures.place, length_big_endian 2 c.in-Fields.format, c.put_four-b.ensures.place, c.put_four-a.ensures.place, length_big_endian 4 header_tag, length_big_endian 4 6)
+put_two-d-requires c = omega (arith, c.put_two-c.ensures.place, length_big_endian 2 c.in-Ok.header.format, c.put_four-b.ensures.place, c.put_four-a.ensures.place, length_big_endian 4 header_tag, length_big_endian 4 6)
 
 pub put_two-e-requires : goal.put_two-e-requires
-put_two-e-requires c = omega (arith, c.put_two-d.ensures.place, length_big_endian 2 c.in-Fields.count, c.put_two-c.ensures.place, length_big_endian 2 c.in-Fields.format, c.put_four-b.ensures.place, c.put_four-a.ensures.place, length_big_endian 4 header_tag, length_big_endian 4 6)
+put_two-e-requires c = omega (arith, c.put_two-d.ensures.place, length_big_endian 2 c.in-Ok.header.count, c.put_two-c.ensures.place, length_big_endian 2 c.in-Ok.header.format, c.put_four-b.ensures.place, c.put_four-a.ensures.place, length_big_endian 4 header_tag, length_big_endian 4 6)
 
 pub put_tracks-requires : goal.put_tracks-requires
 put_tracks-requires c = let s = c.args.file.now in
     let bytes = bytes_of s (λ i. omega (arith, c.type_inv.file i)) in
-    let came = sym c.read_header.ensures ∙ c.in-Fields.is in
-    let there = file_accepted s c.in-Fields.format c.in-Fields.count c.in-Fields.division c.in-Fields.next bytes came c.requires.fact_2 in
-    record { fact_1 = omega (arith, c.put_two-e.ensures.place, length_big_endian 2 c.division_bits-bits.result, c.put_two-d.ensures.place, length_big_endian 2 c.in-Fields.count, c.put_two-c.ensures.place, length_big_endian 2 c.in-Fields.format, c.put_four-b.ensures.place, c.put_four-a.ensures.place, length_big_endian 4 header_tag, length_big_endian 4 6); fact_2 = (head_at s c.in-Fields.format c.in-Fields.count c.in-Fields.division c.in-Fields.next bytes came).inside; fact_3 = c.requires.fact_1; fact_4 = accepted_readable s c.in-Fields.count c.in-Fields.next there }
+    let came = sym c.in-Ok.ensures in
+    let there = file_accepted s c.in-Ok.header.format c.in-Ok.header.count c.in-Ok.header.division c.in-Ok.header.next bytes came c.requires.fact_2 in
+    record { fact_1 = omega (arith, c.put_two-e.ensures.place, length_big_endian 2 c.division_bits-bits.result, c.put_two-d.ensures.place, length_big_endian 2 c.in-Ok.header.count, c.put_two-c.ensures.place, length_big_endian 2 c.in-Ok.header.format, c.put_four-b.ensures.place, c.put_four-a.ensures.place, length_big_endian 4 header_tag, length_big_endian 4 6); fact_2 = (head_at s c.in-Ok.header.format c.in-Ok.header.count c.in-Ok.header.division c.in-Ok.header.next bytes came).inside; fact_3 = c.requires.fact_1; fact_4 = accepted_readable s c.in-Ok.header.count c.in-Ok.header.next there }
 
-pub returns-in-BadHeader : goal.returns-in-BadHeader
-returns-in-BadHeader c = let s = c.args.file.now in
+pub returns-in_default : goal.returns-in_default
+returns-in_default c = let s = c.args.file.now in
     let bytes = bytes_of s (λ i. omega (arith, c.type_inv.file i)) in
-    absurd (header_there s c.in-BadHeader.number c.in-BadHeader.place (sym c.read_header.ensures ∙ c.in-BadHeader.is) c.requires.fact_2)
+    absurd (header_there s (number_of c.in_default.field-0.why) c.in_default.field-0.place (sym c.in_default.ensures) c.requires.fact_2)
 
-pub returns-in-Fields : goal.returns-in-Fields
+pub returns : goal.returns
 unfolding lay_header lay_division
-returns-in-Fields c = let a = c.args in
+returns c = let a = c.args in
     let s = a.file.now in
     let bytes = bytes_of s (λ i. omega (arith, c.type_inv.file i)) in
-    let came = sym c.read_header.ensures ∙ c.in-Fields.is in
-    let there = file_accepted s c.in-Fields.format c.in-Fields.count c.in-Fields.division c.in-Fields.next bytes came c.requires.fact_2 in
-    rw (file_bytes (manner_of a.short) s c.in-Fields.format c.in-Fields.count c.in-Fields.division c.in-Fields.next bytes came there, ← c.division_bits-bits.ensures)
+    let came = sym c.in-Ok.ensures in
+    let there = file_accepted s c.in-Ok.header.format c.in-Ok.header.count c.in-Ok.header.division c.in-Ok.header.next bytes came c.requires.fact_2 in
+    rw (file_bytes (manner_of a.short) s c.in-Ok.header.format c.in-Ok.header.count c.in-Ok.header.division c.in-Ok.header.next bytes came there, ← c.division_bits-bits.ensures)
     (then c.put_four-a.ensures (then c.put_four-b.ensures (then c.put_two-c.ensures (then c.put_two-d.ensures (then c.put_two-e.ensures c.put_tracks.ensures)))))

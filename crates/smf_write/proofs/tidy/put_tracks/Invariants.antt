@@ -1,4 +1,4 @@
-use Prim.Native.Nat.{◌≤◌}
+use Prim.Native.Nat.{◌≤◌, ◌-◌}
 use lib.ListN.{length}
 use Rattle.event.specs.Outcome.{Readable}
 use Rattle.event_write.specs.Head.{manner_of}
@@ -8,8 +8,5 @@ use Rattle.smf_write.proofs.FileLaws.{TracksLeft}
 use mathlib.Core.Path.{◌≡◌}
 use Rattle.smf_write.proofs.tidy.put_tracks.Given as goal
 
-abbrev pub invariant-loop-left : goal.invariant-loop-left
-invariant-loop-left l = (l.at ≤ length l.file) × (length l.out ≡ length l.initial.out) × Readable (R l.file l.left l.at) × Remains l.initial.out l.from (TracksLeft (manner_of l.short) l.file l.count l.first) l.out l.next (TracksLeft (manner_of l.short) l.file l.left l.at)
-
-abbrev pub decreases-loop-left : goal.decreases-loop-left
-decreases-loop-left l = l.left
+abbrev pub invariant-loop : goal.invariant-loop
+invariant-loop l = (l.at ≤ length l.file) × (length l.out ≡ length l.initial.out) × Readable (R l.file (l.count - l.counter) l.at) × Remains l.initial.out l.from (TracksLeft (manner_of l.short) l.file l.count l.first) l.out l.next (TracksLeft (manner_of l.short) l.file (l.count - l.counter) l.at)

@@ -38,7 +38,7 @@ returns-then-need-gt-FILE_LIMIT c = let s = c.args.file.now in
     let size = measured m in
     let kept = ap length (unmeasured old m) in
     let long = tidied s there old (write_long _ old n size c.if-need-gt-FILE_LIMIT.true) in
-    record { fact_1 = c.refusal.ensures ∙ long.0; fact_2 = unmeasured old m ∙ long.1 }
+    record { fact_1 = c.refuse.ensures ∙ long.0; fact_2 = unmeasured old m ∙ long.1 }
 
 pub returns-then-too_small : goal.returns-then-too_small
 unfolding manner_of
