@@ -46,7 +46,7 @@ Timed t m = and_then m (λ x r. ok (record { time = t; kind = kind_in x }) r)
 
 -- an event of the Time t, read with the padding b of its delta
 abbrev pub event_of : Time → FrameRead → ℕ → EventRead
-event_of t f x = record { time = t; kind = f.kind; next = f.next; status = f.status; padding = x }
+event_of t f x = record { kind = f.kind; next = record { place = f.next; time = t; status = f.status }; padding = x }
 
 -- the status in force after an event that was read is the one that its kind gives
 found : (n t f b y : ℕ) (l : List ℕ) (m : Outcome Frame) (g : FrameRead) → Bytes l → read_frame f l ≡ m → padded y (frame_step n m) ≡ Ok g

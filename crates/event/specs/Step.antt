@@ -12,6 +12,7 @@ use Rattle.event.specs.declared.DataPlace.{DataPlace}
 use Rattle.event.specs.declared.NumberRead.{NumberRead}
 use Rattle.event.specs.declared.FrameRead.{FrameRead}
 use Rattle.event.specs.declared.EventRead.{EventRead}
+use Rattle.event.specs.declared.Cursor.{Cursor}
 
 -- the k bytes of l from the place i on; 0 stands for a byte past its end
 abbrev pub bytes_from : ℕ → List ℕ → ℕ → List ℕ
@@ -92,10 +93,14 @@ unfoldable pub padded : ℕ → Result FrameRead ℕ → Result FrameRead ℕ
 padded x (Ok f) = Ok (record { kind = f.kind; next = f.next; status = f.status; padding = x })
 padded x (Err k) = Err k
 
+-- before a track's first event, which stands at a place
+abbrev pub start_at : ℕ → Cursor
+start_at place = record { place = place; time = record { 0 = 0 }; status = 0 }
+
 -- an event: its Time besides, and the padding x of its delta and length
 unfoldable pub event_step : ℕ → ℕ → Outcome Event → Result EventRead ℕ
 event_step n x (ok e r) =
-    Ok (record { time = record { 0 = e.time }; kind = kind_at (n - length r) e.kind; next = n - length r; status = after (frame e.kind); padding = x })
+    Ok (record { kind = kind_at (n - length r) e.kind; next = record { place = n - length r; time = record { 0 = e.time }; status = after (frame e.kind) }; padding = x })
 event_step n x (refused k p) = Err k
 
 -- the len bytes of s from the place start on, or none where they are not all there

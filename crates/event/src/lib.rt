@@ -3,6 +3,7 @@
 
 ghost use Rattle.std.specs.Prelude.{◌≡◌};
 ghost use Rattle.event.specs.Dates.{later_of, since_of};
+ghost use Rattle.event.specs.Step.{start_at};
 
 pub mod refusal; // refusal.rt: why a file, a text or a table is refused
 pub mod number; // number.rt: variable-length numbers, and bytes at a place
@@ -153,12 +154,31 @@ pub struct FrameRead {
     pub padding: u32,
 }
 
-// An event that was read with its delta: its Time besides, and the padding of delta and length.
+// Before an event of a track: where it stands in the track's body, the Time so far, and the status in force (0: none).
+#[derive(Clone, Copy)]
+pub struct Cursor {
+    pub place: usize,
+    pub time: Time,
+    pub status: u8,
+}
+
+impl Cursor {
+    // Before the first event of a track whose events begin at a place.
+    pub fn start(place: usize) -> Cursor
+        ensures { result ≡ start_at place }
+    {
+        Cursor {
+            place,
+            time: Time(0),
+            status: 0,
+        }
+    }
+}
+
+// An event that was read with its delta: the padding of delta and length, and the cursor after it, which has its Time.
 #[derive(Clone, Copy)]
 pub struct EventRead {
-    pub time: Time,
     pub kind: EventKind,
-    pub next: usize,
-    pub status: u8,
+    pub next: Cursor,
     pub padding: u32,
 }

@@ -11,7 +11,7 @@ use super::meta::{exclusive_event, meta_event};
 use super::number::read_number;
 use super::refusal::Refusal;
 use super::sort::{DATA_BYTE, EXCLUSIVE, META, ONE_FOLLOWS, PACKET, SORTS, TWO_FOLLOW};
-use super::{DataPlace, Delta, EventKind, EventRead, FrameRead, Time};
+use super::{Cursor, DataPlace, Delta, EventKind, EventRead, FrameRead};
 
 // What the table says of a byte.
 fn sort_of(b: u8) -> u8
@@ -41,21 +41,24 @@ fn after_delta(body: &[u8], at: usize, status: u8) -> Result<FrameRead, Refusal>
     }
 }
 
-// The event at a place of a track's body, after the Time so far, with the status in force (0: none).
-pub fn read_event(body: &[u8], at: usize, time: Time, status: u8) -> Result<EventRead, Refusal>
-    ensures { numbered result ≡ event_step (length body.now) (event_padding (drop at body.now)) (read_event time.0 status (drop at body.now)) }
+// The event at the cursor in a track's body.
+pub fn read_event(body: &[u8], cursor: Cursor) -> Result<EventRead, Refusal>
+    ensures { numbered result ≡ event_step (length body.now) (event_padding (drop cursor.place body.now)) (read_event cursor.time.0 cursor.status (drop cursor.place body.now)) }
 {
-    let delta = read_number(body, at)?;
-    let Some(time) = time.later(Delta(delta.value)) else {
+    let delta = read_number(body, cursor.place)?;
+    let Some(time) = cursor.time.later(Delta(delta.value)) else {
         return Err(Refusal::TimeTooGreat);
     };
-    let frame = after_delta(body, delta.next, status)?;
+    let frame = after_delta(body, delta.next, cursor.status)?;
     let padding = delta.padding + frame.padding;
-    Ok(EventRead {
+    let next = Cursor {
+        place: frame.next,
         time,
-        kind: frame.kind,
-        next: frame.next,
         status: frame.status,
+    };
+    Ok(EventRead {
+        kind: frame.kind,
+        next,
         padding,
     })
 }

@@ -200,7 +200,7 @@ module _ {f : List ℕ} {n : ℕ} {all : List (List Placed)} {old : List ℕ} {f
     pub not_stopped : {k : ℕ} → x ≡ Err k → ⊥
     not_stopped {k} given = let o = opened i h l in no_stop f (get_or ps i 0) o.prev (get_or ss i 0) o.first k x bs o.link e given
 
-    pub taken_here : {u : Time} {k : EventKind} {q st y : ℕ} → x ≡ Ok (record { time = u; kind = k; next = q; status = st; padding = y }) → Taken f k q st (opened i h l).first
+    pub taken_here : {u : Time} {k : EventKind} {q st y : ℕ} → x ≡ Ok (record { kind = k; next = record { place = q; time = u; status = st }; padding = y }) → Taken f k q st (opened i h l).first
     taken_here {u} {k} {q} {st} {y} given =
         let o = opened i h l in
         taken f (get_or ps i 0) o.prev (get_or ss i 0) o.first u k q st bs o.link

@@ -63,7 +63,7 @@ pub scan_first : (body : List ℕ) (base : ℕ) → Readable (read_all 0 0 0 bod
 scan_first body base h = record { readable = h; same = ap (λ z. track_free z fine) (met_all body base) }
 
 module _ {body : List ℕ} {base at t force : ℕ} {u : Time} {k : EventKind} {q st y : ℕ} (s : Scanning body base at t force) (bs : Bytes body) (h : at ≤ length body)
-    (answer : event_step (length body) (event_padding (drop at body)) (read_event t force (drop at body)) ≡ Ok (record { time = u; kind = k; next = q; status = st; padding = y })) where
+    (answer : event_step (length body) (event_padding (drop at body)) (read_event t force (drop at body)) ≡ Ok (record { kind = k; next = record { place = q; time = u; status = st }; padding = y })) where
   came : Came body at t force u k q st
   came = event_came body at t force bs h refl answer
 

@@ -8,7 +8,7 @@ ghost use Rattle.fold_piece.specs.FoldAnswer.{track_free, tracks_free, several_f
 ghost use Rattle.fold.specs.Code.Look.{prefix_or_port_of, looked, look_answer, fine};
 ghost use Rattle.fold.specs.Code.Row.{TracksRead};
 
-use event::{EventKind, Time};
+use event::{Cursor, EventKind};
 
 // Fewer tracks than so many may have a Channel_prefix or a MIDI_port.
 const SEVERAL: usize = 2;
@@ -29,23 +29,19 @@ fn scan_track(body: &[u8], base: usize) -> Option<usize>
     requires fact_2 { Readable (read_all 0 0 0 body.now) }
     ensures { looked result ≡ look_answer (track_free (placed_of (walked_body base body.now)) fine) }
 {
-    let mut at: usize = 0;
-    let mut time = Time(0);
-    let mut status: u8 = 0;
+    let mut cursor = Cursor::start(0);
     loop {
-        let Ok(read) = event::read::read_event(body, at, time, status) else {
+        let Ok(read) = event::read::read_event(body, cursor) else {
             return None;
         };
         let kind = read.kind;
         if is_prefix_or_port(kind) {
-            return Some(base + at);
+            return Some(base + cursor.place);
         }
         if event::read::is_end(kind) {
             return None;
         }
-        at = read.next;
-        time = read.time;
-        status = read.status;
+        cursor = read.next;
     }
 }
 

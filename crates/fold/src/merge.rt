@@ -6,10 +6,10 @@ ghost use Rattle.smf_write.specs.Tidy.{events_in};
 ghost use Rattle.fold_piece.specs.FoldAnswer.{place_shown, time_shown, status_shown};
 ghost use Rattle.fold.specs.Code.Row.{TracksRead, track_of, RowsFor, showing};
 
-use super::rows::{clear, row_of, start_rows};
+use super::rows::{clear, row_at, start_rows};
 use super::search::{greatest_time, least, least_after};
 use event::read::read_event;
-use event::{EventKind, Time};
+use event::{Cursor, EventKind, Time};
 use smf_write::tidy::{put_event, step};
 
 // The events of so many tracks from a place of the file on, which are known to read, as those of one
@@ -55,22 +55,24 @@ pub fn merge(
             clear(statuses, count);
             return end;
         }
-        let at = places[i];
         let now = times[i];
-        let status = statuses[i];
         let time = Time(now);
-        let Ok(read) = read_event(file, at, Time(0), status) else {
+        let cursor = Cursor {
+            place: places[i],
+            time: Time(0),
+            status: statuses[i],
+        };
+        let Ok(read) = read_event(file, cursor) else {
             return next;
         };
-        let n = read.next;
-        let s = read.status;
+        let after = Cursor { time, ..read.next };
         next = put_event(out, next, step(time, last), read.kind, force, file, true);
-        let row = row_of(n, time, s, read_event(file, n, time, s));
+        let row = row_at(file, after);
         places[i] = row.place;
         times[i] = row.time;
         statuses[i] = row.status;
         last = time;
-        force = s;
+        force = after.status;
         i = least_after(times, statuses, count, i, now);
     }
 }

@@ -12,7 +12,7 @@ ghost use Rattle.fold.specs.Code.Stand.{Rows};
 
 use super::{ENDED, Row};
 use event::refusal::Refusal;
-use event::{EventRead, Time};
+use event::{Cursor, EventRead};
 
 // How many rows are lent: as many as the shortest of the lists has numbers.
 pub fn rows_lent(places: &[usize], times: &[u32], statuses: &[u8]) -> usize
@@ -21,44 +21,40 @@ pub fn rows_lent(places: &[usize], times: &[u32], statuses: &[u8]) -> usize
     places.len().min(times.len().min(statuses.len()))
 }
 
-// The row of a track whose next event stands at a place, after a Time, with a status in force, as it was read.
-pub fn row_of(at: usize, time: Time, status: u8, step: Result<EventRead, Refusal>) -> Row
-    ensures { result ≡ row_of at time.0 status (numbered step) }
+// The row of a track at a cursor, of its next event as it was read.
+pub fn row_of(cursor: Cursor, step: Result<EventRead, Refusal>) -> Row
+    ensures { result ≡ row_of cursor.place cursor.time.0 cursor.status (numbered step) }
 {
+    let place = cursor.place;
     match step {
         Err(_) => Row {
-            place: at,
-            time: time.0,
+            place,
+            time: cursor.time.0,
             status: ENDED,
         },
         Ok(read) => {
-            let t = read.time.0;
+            let time = read.next.time.0;
             if event::read::is_end(read.kind) {
                 return Row {
-                    place: at,
-                    time: t,
+                    place,
+                    time,
                     status: ENDED,
                 };
             }
             Row {
-                place: at,
-                time: t,
-                status,
+                place,
+                time,
+                status: cursor.status,
             }
         }
     }
 }
 
 // The same, read from the file.
-fn row_at(file: &[u8], at: usize, time: Time, status: u8) -> Row
-    ensures { result ≡ row_of at time.0 status (event_step (length file.now) (event_padding (drop at file.now)) (read_event time.0 status (drop at file.now))) }
+pub fn row_at(file: &[u8], cursor: Cursor) -> Row
+    ensures { result ≡ row_of cursor.place cursor.time.0 cursor.status (event_step (length file.now) (event_padding (drop cursor.place file.now)) (read_event cursor.time.0 cursor.status (drop cursor.place file.now))) }
 {
-    row_of(
-        at,
-        time,
-        status,
-        event::read::read_event(file, at, time, status),
-    )
+    row_of(cursor, event::read::read_event(file, cursor))
 }
 
 // Rows for so many tracks from a place of the file on, which are known to read: each stands before its
@@ -82,7 +78,7 @@ pub fn start_rows(
         let Ok(chunk) = smf::track::next_track(file, at) else {
             return;
         };
-        let row = row_at(file, chunk.start, Time(0), 0);
+        let row = row_at(file, Cursor::start(chunk.start));
         places[i] = row.place;
         times[i] = row.time;
         statuses[i] = row.status;

@@ -12,7 +12,7 @@ ghost use Rattle.midicsv.specs.Text.{mark, event_records, track_records, records
 ghost use Rattle.midicsv_write.specs.ToText.{written_answer, written_leaves};
 
 use super::record::{put_end_line, put_event_line, put_header_line, put_start_line};
-use event::Time;
+use event::Cursor;
 use smf::Answer;
 
 // The two forms: whether a sheet is written.
@@ -29,20 +29,16 @@ fn put_events(out: &mut [u8], from: usize, body: &[u8], track: u32, sheet: bool)
     ensures { Written out.old from (records_text (form_of sheet) (event_records track (value_or [] (read_all 0 0 0 body.now)))) out.new result }
 {
     let mut next = from;
-    let mut at: usize = 0;
-    let mut time = Time(0);
-    let mut status: u8 = 0;
+    let mut cursor = Cursor::start(0);
     loop {
-        let Ok(read) = event::read::read_event(body, at, time, status) else {
+        let Ok(read) = event::read::read_event(body, cursor) else {
             return next;
         };
-        next = put_event_line(out, next, track, read.time, read.kind, body, sheet);
+        next = put_event_line(out, next, track, read.next.time, read.kind, body, sheet);
         if event::read::is_end(read.kind) {
             return next;
         }
-        at = read.next;
-        time = read.time;
-        status = read.status;
+        cursor = read.next;
     }
 }
 

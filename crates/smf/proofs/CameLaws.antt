@@ -44,17 +44,17 @@ pub record Came (s : List ℕ) (at t f : ℕ) (u : Time) (k : EventKind) (q st :
   pub permitted : Permitted t f event spelling
 
 came_of : (s : List ℕ) (at t f : ℕ) (u : Time) (k : EventKind) (q st x y : ℕ) (m : Outcome Event) → Bytes (drop at s) → at ≤ length s
-    → read_event t f (drop at s) ≡ m → event_step (length s) x m ≡ Ok (record { time = u; kind = k; next = q; status = st; padding = y }) → Came s at t f u k q st
+    → read_event t f (drop at s) ≡ m → event_step (length s) x m ≡ Ok (record { kind = k; next = record { place = q; time = u; status = st }; padding = y }) → Came s at t f u k q st
 unfolding event_step
 came_of s at t f u k q st x y (ok e r) bs h come p =
     let laid = event_sound t f (drop at s) e r bs come in
     let back : drop (length s - length r) s ≡ r = place s (lay_event t e laid.spelling) r at laid.bytes in
     let (shorter, br) = event_shorter t f (drop at s) e r bs come in
     let same = ok_is p in
-    let pq : length s - length r ≡ q = ap (λ (z : EventRead). z.next) same in
+    let pq : length s - length r ≡ q = ap (λ (z : EventRead). z.next.place) same in
     let pk : kind_at (length s - length r) e.kind ≡ k = ap (λ (z : EventRead). z.kind) same in
-    let pt : e.time ≡ u.0 = ap (λ (z : EventRead). z.time.0) same in
-    let ps : after (frame e.kind) ≡ st = ap (λ (z : EventRead). z.status) same in
+    let pt : e.time ≡ u.0 = ap (λ (z : EventRead). z.next.time.0) same in
+    let ps : after (frame e.kind) ≡ st = ap (λ (z : EventRead). z.next.status) same in
     let rest : r ≡ drop q s = cc in
     let kind : kind_at q e.kind ≡ k = ap (λ z. kind_at z e.kind) (sym pq) ∙ pk in
     record {
@@ -75,16 +75,16 @@ came_of s at t f u k q st x y (refused n z) bs h come p = let w : ◌≡◌ {A =
 
 -- x is the answer
 pub event_came : {x : Result EventRead ℕ} {u : Time} {k : EventKind} {q st y : ℕ} (s : List ℕ) (at t f : ℕ) → Bytes s → at ≤ length s
-    → x ≡ event_step (length s) (event_padding (drop at s)) (read_event t f (drop at s)) → x ≡ Ok (record { time = u; kind = k; next = q; status = st; padding = y }) → Came s at t f u k q st
+    → x ≡ event_step (length s) (event_padding (drop at s)) (read_event t f (drop at s)) → x ≡ Ok (record { kind = k; next = record { place = q; time = u; status = st }; padding = y }) → Came s at t f u k q st
 event_came {x} {u} {k} {q} {st} {y} s at t f bs h e given = came_of s at t f u k q st _ y _ (bytes_drop s at bs) h refl (sym e ∙ given)
 
-padding_with : (n x : ℕ) (u : Time) (k : EventKind) (q st y : ℕ) (m : Outcome Event) → event_step n x m ≡ Ok (record { time = u; kind = k; next = q; status = st; padding = y }) → x ≡ y
+padding_with : (n x : ℕ) (u : Time) (k : EventKind) (q st y : ℕ) (m : Outcome Event) → event_step n x m ≡ Ok (record { kind = k; next = record { place = q; time = u; status = st }; padding = y }) → x ≡ y
 unfolding event_step
 padding_with n x u k q st y (ok e r) p = ap (λ (z : EventRead). z.padding) (ok_is p)
 padding_with n x u k q st y (refused j z) p = let w : ◌≡◌ {A = ℕ} 0 1 = cc in absurd (omega arith)
 
 -- and the bytes that it took above the fewest
-pub event_padding_lem : {x : Result EventRead ℕ} {u : Time} {k : EventKind} {q st y : ℕ} (s : List ℕ) (at t f : ℕ) → x ≡ event_step (length s) (event_padding (drop at s)) (read_event t f (drop at s)) → x ≡ Ok (record { time = u; kind = k; next = q; status = st; padding = y })
+pub event_padding_lem : {x : Result EventRead ℕ} {u : Time} {k : EventKind} {q st y : ℕ} (s : List ℕ) (at t f : ℕ) → x ≡ event_step (length s) (event_padding (drop at s)) (read_event t f (drop at s)) → x ≡ Ok (record { kind = k; next = record { place = q; time = u; status = st }; padding = y })
     → event_padding (drop at s) ≡ y
 event_padding_lem {x} {u} {k} {q} {st} {y} s at t f e given = padding_with (length s) _ u k q st y _ (sym e ∙ given)
 

@@ -105,14 +105,14 @@ module _ (f : List ℕ) (bs : Bytes f) (a b : ℕ) (order : a ≤ b) (end : b �
   stands zero at t force x fuel h good e = absurd (omega arith)
   stands (suc n) at t force (Ok x) fuel h good e =
       let c = event_came Part at t force part_bytes h e refl in
-      let link = link_on at t force x.time x.kind x.next x.status h c in
+      let link = link_on at t force x.next.time x.kind x.next.place x.next.status h c in
       by_test (end_of x.kind)
       (λ last.
       rw (met_end a part_bytes c last)
       (record { chain = (link, rw (sym c.ends ∙ last) refl); events = sym (turn_end part_bytes c good last) }))
       (λ last.
       let next = turn_next part_bytes c good last in
-      let rest = stands n x.next x.time.0 x.status _ (omega (arith, c.later, c.inside)) c.inside next.0 refl in
+      let rest = stands n x.next.place x.next.time.0 x.next.status _ (omega (arith, c.later, c.inside)) c.inside next.0 refl in
       rw (met_next a part_bytes c last)
       (record {
         chain = (link, rw (sym c.ends ∙ last, c.time, c.status) rest.chain);

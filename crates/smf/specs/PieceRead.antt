@@ -26,8 +26,8 @@ unfoldable pub events_read : ℕ → List ℕ → Result EventRead ℕ → List 
 events_read zero body (Ok e) = []
 events_read zero body (Err number) = []
 events_read (suc n) body (Ok e) =
-    record { time = e.time.0; kind = kind_from body e.kind }
-    ∷ until_end (end_of e.kind) (events_read n body (event_step (length body) (event_padding (drop e.next body)) (read_event e.time.0 e.status (drop e.next body))))
+    record { time = e.next.time.0; kind = kind_from body e.kind }
+    ∷ until_end (end_of e.kind) (events_read n body (event_step (length body) (event_padding (drop e.next.place body)) (read_event e.next.time.0 e.next.status (drop e.next.place body))))
 events_read (suc n) body (Err number) = []
 
 -- "from the first byte after the track's length to End_track", with no status in force at first

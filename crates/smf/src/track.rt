@@ -41,34 +41,31 @@ fn walk_track(body: &[u8], base: usize) -> Result<Walked, Refused>
     requires fact_2 { length body.now ≤ 4294967295 }
     ensures { told result ≡ walk_step 0 0 (all_padding 0 0 body.now) (read_all base 0 0 body.now) }
 {
-    let mut at: usize = 0;
-    let mut prev = event::Time(0);
-    let mut status: u8 = 0;
+    let start = event::Cursor::start(0);
+    let mut cursor = start;
     let mut events: u32 = 0;
     let mut padding: u32 = 0;
     loop {
-        let read = match event::read::read_event(body, at, prev, status) {
+        let read = match event::read::read_event(body, cursor) {
             Ok(read) => read,
-            Err(why) => return refuse(why, base + at),
+            Err(why) => return refuse(why, base + cursor.place),
         };
+        let next = read.next;
         events += 1;
         padding += read.padding;
         if event::read::is_end(read.kind) {
-            let next = read.next;
-            let more = next < body.len();
+            let more = next.place < body.len();
             if more {
-                let place = base + next;
+                let place = base + next.place;
                 return refuse(Refusal::BytesAfterEndTrack, place);
             }
             return Ok(Walked {
-                time: read.time,
+                time: next.time,
                 events,
                 padding,
             });
         }
-        at = read.next;
-        prev = read.time;
-        status = read.status;
+        cursor = next;
     }
 }
 

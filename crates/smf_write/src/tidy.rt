@@ -12,7 +12,7 @@ ghost use Rattle.smf.specs.Writing.{short_answer, short_leaves};
 ghost use Rattle.smf_write.specs.Tidy.{step_of, events_in, track_in, tracks_in};
 
 use event::refusal::Refusal;
-use event::{Delta, EventKind, Time};
+use event::{Cursor, Delta, EventKind, Time};
 use event_write::bytes::{put_bytes, put_four, put_two};
 use smf::{Answer, HEADER_TAG, TRACK_TAG};
 
@@ -55,21 +55,17 @@ fn put_events(out: &mut [u8], from: usize, body: &[u8], short: bool) -> usize
     ensures { Written out.old from (events_in (manner_of short) 0 0 (value_or [] (read_all 0 0 0 body.now))) out.new result }
 {
     let mut next = from;
-    let mut at: usize = 0;
-    let mut time = Time(0);
-    let mut status: u8 = 0;
+    let mut cursor = Cursor::start(0);
     loop {
-        let Ok(read) = event::read::read_event(body, at, time, status) else {
+        let Ok(read) = event::read::read_event(body, cursor) else {
             return next;
         };
-        let delta = step(read.time, time);
-        next = put_event(out, next, delta, read.kind, status, body, short);
+        let delta = step(read.next.time, cursor.time);
+        next = put_event(out, next, delta, read.kind, cursor.status, body, short);
         if event::read::is_end(read.kind) {
             return next;
         }
-        at = read.next;
-        time = read.time;
-        status = read.status;
+        cursor = read.next;
     }
 }
 

@@ -20,7 +20,7 @@ use Rattle.fold.specs.declared.Row.{Row}
 -- the row of a track whose next event is the one answered, at the place at, after the Time time, with the status in force: that event's
 -- place and Time and the status before it, or status 1 where it is End_track
 unfoldable pub row_of : ℕ → ℕ → ℕ → Result EventRead ℕ → Row
-row_of at time status (Ok e) = record { place = at; time = e.time.0; status = pick (end_of e.kind) 1 status }
+row_of at time status (Ok e) = record { place = at; time = e.next.time.0; status = pick (end_of e.kind) 1 status }
 row_of at time status (Err number) = record { place = at; time = time; status = 1 }
 
 -- a file of format 0 with the one track, its division by its 16 bits

@@ -6,12 +6,12 @@ use mathlib.Core.Path.{sym, ◌∙◌, refl}
 use Rattle.fold.proofs.look.scan_track.Goals as goal
 
 pub loop-read-init : goal.loop-read-init
-loop-read-init c = (omega arith, scan_first _ _ c.requires.fact_2)
+loop-read-init c = rw c.start-cursor.ensures (omega arith, scan_first _ _ c.requires.fact_2)
 
 pub returns-in_default : goal.returns-in_default
 returns-in_default c = let a = c.args in let l = c.loop-read in
     let bytes = bytes_of a.body.now (λ k. omega (arith, c.type_inv.body k)) in
-    absurd (turn_stop a.body.now l.at l.time.0 l.status bytes c.in_default.ensures refl l.invariant.1.readable)
+    absurd (turn_stop a.body.now l.cursor.place l.cursor.time.0 l.cursor.status bytes c.in_default.ensures refl l.invariant.1.readable)
 
 pub returns-then-is_prefix_or_port : goal.returns-then-is_prefix_or_port
 returns-then-is_prefix_or_port c = let a = c.args in let l = c.loop-read in

@@ -10,7 +10,6 @@ use Rattle.event_write.specs.Written.{Written}
 use Rattle.event.proofs.BytesLaws.{bytes_of}
 use Rattle.smf.specs.Code.Chain.{placed_from}
 use Rattle.fold_piece.specs.FoldAnswer.{ends_shown, place_shown, time_shown, status_shown}
-use Rattle.fold.specs.Code.Row.{row_of}
 use Rattle.fold.proofs.RowLaws.{least_found, least_again}
 use Rattle.fold.proofs.MergeLaws.{whole_small, going_first, not_stopped, taken_here, going_more, going_on}
 use Rattle.fold.proofs.EndLaws.{written_all, places_shown, times_shown, statuses_shown}
@@ -98,10 +97,6 @@ put_event-next-requires c = let a = c.args in let g = c.turn.invariant.4 in
     let bytes = bytes_of a.file.now (λ k. omega (arith, c.type_inv.file k)) in
     record { fact_1 = omega (arith, g.remains.place, whole_small a.file.now a.count a.first bytes c.requires.fact_3, length-drop a.first a.file.now, c.requires.fact_1, c.requires.fact_2); fact_2 = omega (arith, c.requires.fact_2) }
 
-pub row_of-row-requires : goal.row_of-row-requires
-unfolding manner_of
-row_of-row-requires c = search rules
-
 pub offset_bounds-places-i-in-turn : goal.offset_bounds-places-i-in-turn
 unfolding manner_of
 offset_bounds-places-i-in-turn c = omega (arith, c.requires.fact_4.0, c.if-none_left.false, c.well_formed.1.0.1)
@@ -124,18 +119,18 @@ bounds-statuses-i-in-turn c = let l = c.turn in omega (arith, l.invariant.3, c.s
 
 pub least_after-i-requires : goal.least_after-i-requires
 unfolding manner_of
-least_after-i-requires c = let l = c.turn in let r = c.row_of-row.result in
+least_after-i-requires c = let l = c.turn in let r = c.row_at-row.result in
     record { fact_1 = omega (arith, length-set l.times l.i r.time, l.invariant.2, c.start_rows.auto.times, c.requires.fact_4.1); fact_2 = omega (arith, length-set l.statuses l.i r.status, l.invariant.3, c.start_rows.auto.statuses, c.requires.fact_4.2); fact_3 = c.if-none_left.false }
 
 pub turn-smaller : goal.turn-smaller
 unfolding manner_of
 turn-smaller c = let l = c.turn in let h = c.if-none_left.false in let bytes = bytes_of c.args.file.now (λ k. omega (arith, c.type_inv.file k)) in
     let w = taken_here bytes l.invariant.4 l.i h l.invariant.5 c.in-Ok.ensures refl in
-    omega (arith, going_more bytes l.invariant.4 l.i h l.invariant.5 c.in-Ok.read.kind c.in-Ok.read.next c.in-Ok.read.status w _ c.put_event-next.new.out c.put_event-next.result (ap (λ (x : Delta). x.0) c.step-in-turn.ensures) c.put_event-next.ensures)
+    omega (arith, going_more bytes l.invariant.4 l.i h l.invariant.5 c.in-Ok.read.kind c.in-Ok.read.next.place c.in-Ok.read.next.status w _ c.put_event-next.new.out c.put_event-next.result (ap (λ (x : Delta). x.0) c.step-in-turn.ensures) c.put_event-next.ensures)
 
 pub turn-preserved : goal.turn-preserved
 unfolding manner_of
-turn-preserved c = let l = c.turn in let h = c.if-none_left.false in let r = c.row_of-row.result in
+turn-preserved c = let l = c.turn in let h = c.if-none_left.false in let r = c.row_at-row.result in
     let k = c.start_rows.auto in
     let bytes = bytes_of c.args.file.now (λ k. omega (arith, c.type_inv.file k)) in
     let w = taken_here bytes l.invariant.4 l.i h l.invariant.5 c.in-Ok.ensures refl in
@@ -146,6 +141,6 @@ turn-preserved c = let l = c.turn in let h = c.if-none_left.false in let r = c.r
       length-set l.places l.i r.place ∙ l.invariant.1,
       length-set l.times l.i r.time ∙ l.invariant.2,
       length-set l.statuses l.i r.status ∙ l.invariant.3,
-      going_on bytes l.invariant.4 l.i h l.invariant.5 c.in-Ok.read.kind c.in-Ok.read.next c.in-Ok.read.status w r hp ht hs (c.row_of-row.ensures ∙ ap (row_of _ _ _) c.read_event-in-turn.ensures) _ c.put_event-next.new.out c.put_event-next.result (ap (λ (x : Delta). x.0) c.step-in-turn.ensures) c.put_event-next.ensures,
+      going_on bytes l.invariant.4 l.i h l.invariant.5 c.in-Ok.read.kind c.in-Ok.read.next.place c.in-Ok.read.next.status w r hp ht hs c.row_at-row.ensures _ c.put_event-next.new.out c.put_event-next.result (ap (λ (x : Delta). x.0) c.step-in-turn.ensures) c.put_event-next.ensures,
       least_again c.args.count l.times l.statuses l.i r.time r.status _ _ h ht hs refl l.invariant.5 c.least_after-i.ensures,
     )

@@ -30,7 +30,7 @@ loop-i-preserved c = let a = c.args in let l = c.loop-i in let r = c.row_at-row.
       length-set l.places l.i r.place ∙ l.invariant.1,
       length-set l.times l.i r.time ∙ l.invariant.2,
       length-set l.statuses l.i r.status ∙ l.invariant.3,
-      start_more a.file.now a.count a.first l.at l.i c.in-Ok.chunk.start c.in-Ok.chunk.end l.places l.times l.statuses _ _ _ r bytes c.loop-i-test.true (omega (arith, l.invariant.1, c.requires.fact_2)) (omega (arith, l.invariant.2, c.requires.fact_3)) (omega (arith, l.invariant.3, c.requires.fact_4)) (sym c.in-Ok.ensures) c.row_at-row.ensures l.invariant.4,
+      start_more a.file.now a.count a.first l.at l.i c.in-Ok.chunk.start c.in-Ok.chunk.end l.places l.times l.statuses _ _ _ r bytes c.loop-i-test.true (omega (arith, l.invariant.1, c.requires.fact_2)) (omega (arith, l.invariant.2, c.requires.fact_3)) (omega (arith, l.invariant.3, c.requires.fact_4)) (sym c.in-Ok.ensures) (rw c.start.ensures at c.row_at-row.ensures) l.invariant.4,
     )
 
 pub returns : goal.returns

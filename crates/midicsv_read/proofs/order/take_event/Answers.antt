@@ -19,16 +19,16 @@ returns-then-row-st c = let a = c.args in
 pub returns-then-d-gt-MOST_DELTA : goal.returns-then-d-gt-MOST_DELTA
 returns-then-d-gt-MOST_DELTA c = let a = c.args in
     let row = record_in a.line.now a.row in
-    let s = since_after a.row.time a.st.time.0 c.in-After.delta (sym c.since.ensures ∙ c.in-After.is) in
+    let s = since_after a.row.time a.st.time.0 c.in-Some.delta (sym c.since.ensures ∙ c.in-Some.is) in
     record { fact_1 = event_far (manner_of a.short) a.st _ row.track row.time row.values row.name [] _ (event_name a.row.name c.requires.fact_3 c.requires.fact_2.name) c.if-st-ne2.false c.if-row-st.false s.0 s.1 c.if-d-gt-MOST_DELTA.true; fact_2 = tt }
 
 pub put_event-requires : goal.put_event-requires
 put_event-requires c = let a = c.args in
-    let s = since_after a.row.time a.st.time.0 c.in-After.delta (sym c.since.ensures ∙ c.in-After.is) in
+    let s = since_after a.row.time a.st.time.0 c.in-Some.delta (sym c.since.ensures ∙ c.in-Some.is) in
     record { fact_1 = c.requires.fact_1; fact_2 = c.requires.fact_2; fact_3 = c.requires.fact_3; fact_4 = record { phase = c.if-st-ne2.false; track = c.if-row-st.false; later = s.0; delta = s.1; near = c.if-d-gt-MOST_DELTA.false } }
 
-pub returns-in-Before : goal.returns-in-Before
-returns-in-Before c = let a = c.args in
+pub returns-in-None : goal.returns-in-None
+returns-in-None c = let a = c.args in
     let row = record_in a.line.now a.row in
-    let falls = since_before a.row.time a.st.time.0 (sym c.since.ensures ∙ c.in-Before.is) in
+    let falls = since_before a.row.time a.st.time.0 (sym c.since.ensures ∙ c.in-None.is) in
     record { fact_1 = event_falls (manner_of a.short) a.st _ row.track row.time row.values row.name [] (event_name a.row.name c.requires.fact_3 c.requires.fact_2.name) c.if-row-st.false falls; fact_2 = tt }

@@ -11,7 +11,7 @@ use native.Mathlib.Omega.{arith}
 use Rattle.midicsv_write.proofs.to_text.put_events.Goals as goal
 
 pub loop-read-init : goal.loop-read-init
-loop-read-init c = (omega arith, refl, c.requires.fact_4, all_remains _ _ _)
+loop-read-init c = rw c.start-cursor.ensures (omega arith, refl, c.requires.fact_4, all_remains _ _ _)
 
 pub returns-in_default : goal.returns-in_default
 returns-in_default c =
@@ -19,7 +19,7 @@ returns-in_default c =
     let s = a.body.now in
     let l = c.loop-read in
     let bytes = bytes_of s (λ i. omega (arith, c.type_inv.body i)) in
-    absurd (turn_stop s l.at l.time.0 l.status bytes c.in_default.ensures refl l.invariant.2)
+    absurd (turn_stop s l.cursor.place l.cursor.time.0 l.cursor.status bytes c.in_default.ensures refl l.invariant.2)
 
 pub put_event_line-next-requires : goal.put_event_line-next-requires
 put_event_line-next-requires c =
@@ -35,7 +35,7 @@ returns-then-is_end c =
     let s = a.body.now in
     let l = c.loop-read in
     let bytes = bytes_of s (λ i. omega (arith, c.type_inv.body i)) in
-    let e = event_came s l.at l.time.0 l.status bytes l.invariant.0 c.in-Ok.ensures refl in
+    let e = event_came s l.cursor.place l.cursor.time.0 l.cursor.status bytes l.invariant.0 c.in-Ok.ensures refl in
     let all = turn_end bytes e l.invariant.2 (sym c.is_end.ensures ∙ c.if-is_end.true) in
     finish _ _ l.invariant.3 (last_line (form_of a.sheet) a.track e all) c.put_event_line-next.ensures
 
@@ -45,7 +45,7 @@ loop-read-smaller c =
     let s = a.body.now in
     let l = c.loop-read in
     let bytes = bytes_of s (λ i. omega (arith, c.type_inv.body i)) in
-    let e = event_came s l.at l.time.0 l.status bytes l.invariant.0 c.in-Ok.ensures refl in
+    let e = event_came s l.cursor.place l.cursor.time.0 l.cursor.status bytes l.invariant.0 c.in-Ok.ensures refl in
     omega (arith, e.later, e.inside)
 
 pub loop-read-preserved : goal.loop-read-preserved
@@ -54,6 +54,6 @@ loop-read-preserved c =
     let s = a.body.now in
     let l = c.loop-read in
     let bytes = bytes_of s (λ i. omega (arith, c.type_inv.body i)) in
-    let e = event_came s l.at l.time.0 l.status bytes l.invariant.0 c.in-Ok.ensures refl in
+    let e = event_came s l.cursor.place l.cursor.time.0 l.cursor.status bytes l.invariant.0 c.in-Ok.ensures refl in
     let n = turn_next bytes e l.invariant.2 (sym c.is_end.ensures ∙ c.if-is_end.false) in
     (e.inside, c.put_event_line-next.auto.out ∙ l.invariant.1, n.0, go_on_lem _ _ _ l.invariant.3 (next_line (form_of a.sheet) a.track e n.1) c.put_event_line-next.ensures)

@@ -9,7 +9,7 @@ use mathlib.Core.Path.{◌≡◌}
 use Rattle.midicsv_write.proofs.to_text.put_events.Given as goal
 
 abbrev pub invariant-loop-read : goal.invariant-loop-read
-invariant-loop-read l = (l.at ≤ length l.body) × (length l.out ≡ length l.initial.out) × Readable (A l.body l.at l.time.0 l.status) × Remains l.initial.out l.from (EventsLeft (form_of l.sheet) l.track l.body 0 0 0) l.out l.next (EventsLeft (form_of l.sheet) l.track l.body l.at l.time.0 l.status)
+invariant-loop-read l = (l.cursor.place ≤ length l.body) × (length l.out ≡ length l.initial.out) × Readable (A l.body l.cursor.place l.cursor.time.0 l.cursor.status) × Remains l.initial.out l.from (EventsLeft (form_of l.sheet) l.track l.body 0 0 0) l.out l.next (EventsLeft (form_of l.sheet) l.track l.body l.cursor.place l.cursor.time.0 l.cursor.status)
 
 abbrev pub decreases-loop-read : goal.decreases-loop-read
-decreases-loop-read l = length l.body - l.at
+decreases-loop-read l = length l.body - l.cursor.place

@@ -13,14 +13,14 @@ use mathlib.Core.Path.{refl, sym, ◌∙◌, ap}
 use Rattle.smf_write.proofs.tidy.put_events.Goals as goal
 
 pub loop-read-init : goal.loop-read-init
-loop-read-init c = (omega arith, refl, c.requires.fact_3, all_remains _ _ _)
+loop-read-init c = rw c.start-cursor.ensures (omega arith, refl, c.requires.fact_3, all_remains _ _ _)
 
 pub returns-in_default : goal.returns-in_default
 returns-in_default c = let a = c.args in
     let s = a.body.now in
     let l = c.loop-read in
     let bytes = bytes_of s (λ i. omega (arith, c.type_inv.body i)) in
-    absurd (turn_stop s l.at l.time.0 l.status bytes c.in_default.ensures refl l.invariant.2)
+    absurd (turn_stop s l.cursor.place l.cursor.time.0 l.cursor.status bytes c.in_default.ensures refl l.invariant.2)
 
 pub put_event-next-requires : goal.put_event-next-requires
 put_event-next-requires c = let a = c.args in
@@ -36,8 +36,8 @@ returns-then-is_end c = let a = c.args in
     let bytes = bytes_of s (λ i. omega (arith, c.type_inv.body i)) in
     let k = c.in-Ok.read.kind in
     let delta = ap (λ (d : Delta). d.0) c.step-delta.ensures in
-    let item : ℕ → List ℕ = λ z. head_bytes (manner_of a.short) l.status z k ++ data_of (kind_from s k) in
-    let e = event_came s l.at l.time.0 l.status bytes l.invariant.0 c.in-Ok.ensures refl in
+    let item : ℕ → List ℕ = λ z. head_bytes (manner_of a.short) l.cursor.status z k ++ data_of (kind_from s k) in
+    let e = event_came s l.cursor.place l.cursor.time.0 l.cursor.status bytes l.invariant.0 c.in-Ok.ensures refl in
     let all = turn_end bytes e l.invariant.2 (sym c.is_end.ensures ∙ c.if-is_end.true) in
     finish _ _ l.invariant.3 (end_left (manner_of a.short) e all ∙ ap item (sym delta)) c.put_event-next.ensures
 
@@ -46,7 +46,7 @@ loop-read-smaller c = let a = c.args in
     let s = a.body.now in
     let l = c.loop-read in
     let bytes = bytes_of s (λ i. omega (arith, c.type_inv.body i)) in
-    let e = event_came s l.at l.time.0 l.status bytes l.invariant.0 c.in-Ok.ensures refl in
+    let e = event_came s l.cursor.place l.cursor.time.0 l.cursor.status bytes l.invariant.0 c.in-Ok.ensures refl in
     omega (arith, e.later, e.inside)
 
 pub loop-read-preserved : goal.loop-read-preserved
@@ -55,10 +55,10 @@ loop-read-preserved c = let a = c.args in
     let l = c.loop-read in
     let bytes = bytes_of s (λ i. omega (arith, c.type_inv.body i)) in
     let k = c.in-Ok.read.kind in
-    let q = c.in-Ok.read.next in
-    let st = c.in-Ok.read.status in
+    let q = c.in-Ok.read.next.place in
+    let st = c.in-Ok.read.next.status in
     let delta = ap (λ (d : Delta). d.0) c.step-delta.ensures in
-    let item : ℕ → List ℕ = λ z. head_bytes (manner_of a.short) l.status z k ++ data_of (kind_from s k) in
-    let e = event_came s l.at l.time.0 l.status bytes l.invariant.0 c.in-Ok.ensures refl in
+    let item : ℕ → List ℕ = λ z. head_bytes (manner_of a.short) l.cursor.status z k ++ data_of (kind_from s k) in
+    let e = event_came s l.cursor.place l.cursor.time.0 l.cursor.status bytes l.invariant.0 c.in-Ok.ensures refl in
     let n = turn_next bytes e l.invariant.2 (sym c.is_end.ensures ∙ c.if-is_end.false) in
-    (e.inside, c.put_event-next.auto.out ∙ l.invariant.1, n.0, go_on_lem _ _ _ l.invariant.3 (next_left (manner_of a.short) e n.1 ∙ ap (λ z. item z ++ Left (manner_of a.short) s q c.in-Ok.read.time.0 st) (sym delta)) c.put_event-next.ensures)
+    (e.inside, c.put_event-next.auto.out ∙ l.invariant.1, n.0, go_on_lem _ _ _ l.invariant.3 (next_left (manner_of a.short) e n.1 ∙ ap (λ z. item z ++ Left (manner_of a.short) s q c.in-Ok.read.next.time.0 st) (sym delta)) c.put_event-next.ensures)
