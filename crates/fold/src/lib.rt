@@ -47,12 +47,7 @@ pub fn fold(
     ensures fact_4 { times.new ≡ rows_leave time_shown (fold_outcome (rows_lent places.old times.old statuses.old) file.now) (placed_file file.now) times.old }
     ensures fact_5 { statuses.new ≡ rows_leave status_shown (fold_outcome (rows_lent places.old times.old statuses.old) file.now) (placed_file file.now) statuses.old }
 {
-    let verdict = smf::check::check(file);
-    let refused = verdict.number;
-    if refused != 0 {
-        return verdict;
-    }
-    let header = match smf::header::read_header(file) {
+    let header = match smf::check::read_file(file) {
         Ok(header) => header,
         Err(refused) => return refused.answer(),
     };

@@ -3,7 +3,8 @@
 ghost use Rattle.std.specs.Prelude.{◌≡◌, [], ◌∷◌, ◌+◌, ◌≤◌, ◌<◌, ◌^◌, length, drop};
 ghost use Rattle.event.specs.Outcome.{Readable, value_or};
 ghost use Rattle.event_write.specs.Written.{Written};
-ghost use Rattle.smf.specs.Reader.{read_all, read_tracks, read_file};
+ghost use Rattle.smf.specs.Reader.{read_all, read_tracks, read_header, read_file};
+ghost use Rattle.smf.specs.Step.{header_step};
 ghost use Rattle.smf.specs.PieceRead.{piece_read};
 ghost use Rattle.midicsv.specs.Show.{as_text, as_sheet};
 ghost use Rattle.midicsv.specs.Table.{start_track};
@@ -13,7 +14,7 @@ ghost use Rattle.midicsv_write.specs.ToText.{written_answer, written_leaves};
 
 use super::record::{put_end_line, put_event_line, put_header_line, put_start_line};
 use event::Cursor;
-use smf::Answer;
+use smf::{Answer, HeaderRead};
 
 // The two forms: whether a sheet is written.
 const TEXT: bool = false;
@@ -84,15 +85,13 @@ fn put_tracks(
     next
 }
 
-// The text of the piece of a file that is known to read.
-fn put_text(out: &mut [u8], file: &[u8], sheet: bool) -> usize
-    requires fact_1 { length file.now ≤ 1048576 }
-    requires fact_2 { Readable (read_file file.now) }
+// The text of the piece of a file that is known to read, whose header was read.
+fn put_text(out: &mut [u8], file: &[u8], header: HeaderRead, sheet: bool) -> usize
+    requires small { length file.now ≤ 1048576 }
+    requires readable { Readable (read_file file.now) }
+    requires header { Ok header ≡ header_step (length file.now) (read_header file.now) }
     ensures { Written out.old 0 (written_as (form_of sheet) (piece_read file.now)) out.new result }
 {
-    let Ok(header) = smf::header::read_header(file) else {
-        return 0;
-    };
     let count = header.count;
     let bits = smf::header::division_bits(header.division);
     let p = put_header_line(out, header.format, count, bits, sheet);
@@ -117,20 +116,19 @@ fn put_file(file: &[u8], out: &mut [u8], sheet: bool) -> Answer
     ensures fact_1 { result ≡ written_answer (form_of sheet) (length out.old) (read_file file.now) }
     ensures fact_2 { out.new ≡ written_leaves (form_of sheet) (read_file file.now) out.old }
 {
-    let verdict = smf::check::check(file);
-    let refused = verdict.number;
-    if refused != 0 {
-        return verdict;
-    }
+    let header = match smf::check::read_file(file) {
+        Ok(header) => header,
+        Err(refused) => return refused.answer(),
+    };
     if most_for(file.len(), sheet) <= out.len() {
-        let written = put_text(out, file, sheet);
+        let written = put_text(out, file, header, sheet);
         return Answer::success(written);
     }
-    let need = put_text(&mut out[..0], file, sheet);
+    let need = put_text(&mut out[..0], file, header, sheet);
     if out.len() < need {
         return Answer::room_needed(need);
     }
-    put_text(out, file, sheet);
+    put_text(out, file, header, sheet);
     Answer::success(need)
 }
 

@@ -22,7 +22,8 @@ unfoldable pub verdict : {A : Type 0} → Outcome A → Answer
 verdict (ok x r) = success 0
 verdict (refused n p) = refusal n p
 
--- the answer that a check gives
-abbrev pub answered : Result (Unit {0}) Refused → Answer
-answered (Ok u) = success 0
-answered (Err r) = refusal (number_of r.why) r.place
+module _ {A : Type 0} where
+  -- the answer that a check gives
+  abbrev pub answered : Result A Refused → Answer
+  answered (Ok a) = success 0
+  answered (Err r) = refusal (number_of r.why) r.place

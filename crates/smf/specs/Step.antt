@@ -1,11 +1,12 @@
 -- What the code's enums say, by document 01's numbers and values: the answer of each reader on the rest of a file of n bytes,
 -- with places in the file.
-use Rattle.std.specs.Prelude.{Result, Ok, Err, ℕ, ◌+◌, ◌-◌, List, [], ◌∷◌, length}
+use Rattle.std.specs.Prelude.{◌≡◌, Result, Ok, Err, ℕ, ◌+◌, ◌-◌, List, [], ◌∷◌, length}
 use Rattle.event.specs.Event.{Event}
 use Rattle.event.specs.Outcome.{Outcome, ok, refused}
 use Rattle.event.specs.Refusal.{number_of}
 use Rattle.smf.specs.Division.{Division, pulses, frames}
 use Rattle.smf.specs.Piece.{Header}
+use Rattle.smf.specs.Reader.{read_header}
 use Rattle.smf.specs.declared.Division
 use Rattle.smf.specs.declared.Division.TheVariants.{Pulses, Frames}
 use Rattle.smf.specs.declared.Refused.{Refused}
@@ -59,3 +60,8 @@ track_step n x (refused k p) = Err (k, p)
 unfoldable pub tracks_step : ℕ → Outcome (List (List Event)) → Result ℕ (ℕ × ℕ)
 tracks_step n (ok ts r) = Ok (n - length r)
 tracks_step n (refused k p) = Err (k, p)
+
+-- what was read of the file f, if anything, is its header
+unfoldable pub HeaderOf : List ℕ → Result HeaderRead Refused → Type 0
+HeaderOf f (Ok h) = Ok h ≡ header_step (length f) (read_header f)
+HeaderOf f (Err r) = Unit {0}

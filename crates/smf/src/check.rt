@@ -1,13 +1,13 @@
 // Checking a file.
 ghost use Rattle.std.specs.Prelude.{◌≡◌, ◌≤◌, length, drop};
 ghost use Rattle.smf.specs.Reader.{read_tracks, read_behind, read_file};
-ghost use Rattle.smf.specs.Step.{tracks_step, told};
+ghost use Rattle.smf.specs.Step.{tracks_step, told, HeaderOf};
 ghost use Rattle.smf.specs.Answer.{verdict, answered};
 ghost use Rattle.smf.specs.Demand3.{Demand3};
 
 use super::header::read_header;
 use super::track::read_track;
-use super::{Answer, Refused, TRACK_TAG, refuse};
+use super::{Answer, HeaderRead, Refused, TRACK_TAG, refuse};
 use event::number::big_endian;
 use event::refusal::Refusal;
 
@@ -50,16 +50,18 @@ fn after_tracks(file: &[u8], from: usize) -> Result<(), Refused>
     Ok(())
 }
 
-// The whole file: Ok exactly where it is the layout of a piece.
-fn read_file(file: &[u8]) -> Result<(), Refused>
-    ensures { answered result ≡ verdict (read_file file.now) }
+// The header of a whole file, where the file is the layout of a piece.
+pub fn read_file(file: &[u8]) -> Result<HeaderRead, Refused>
+    ensures verdict { answered result ≡ verdict (read_file file.now) }
+    ensures header { HeaderOf file.now result }
 {
     if FILE_LIMIT < file.len() {
         return refuse(Refusal::FileTooLong, 0);
     }
     let header = read_header(file)?;
     let end = read_tracks(file, header.count, header.next)?;
-    after_tracks(file, end)
+    after_tracks(file, end)?;
+    Ok(header)
 }
 
 // The verdict on a file: number 0 exactly where it is the layout of a piece.
@@ -68,7 +70,7 @@ pub fn check(file: &[u8]) -> Answer
     ensures fact_2 { Demand3 file.now result.number }
 {
     match read_file(file) {
-        Ok(()) => Answer::success(0),
+        Ok(_) => Answer::success(0),
         Err(refused) => refused.answer(),
     }
 }

@@ -7,8 +7,7 @@ ghost use Rattle.smf.specs.Padding.{tracks_padding};
 ghost use Rattle.event.specs.Outcome.{Readable, value_or};
 
 use super::Answer;
-use super::check::check;
-use super::header::read_header;
+use super::check::read_file;
 use super::track::read_track;
 
 // Fills the three lists from the tracks at a place on, which are known to read.
@@ -49,28 +48,22 @@ pub fn list_tracks(file: &[u8], ends: &mut [u32], counts: &mut [u32], padding: &
     ensures fact_4 { padding.new ≡ list_leaves (paddings_in file.now) (length ends.old) (length counts.old) (length padding.old) (read_file file.now) padding.old }
     ensures fact_5 { PaddingTold file.now result.number result.length padding.new }
 {
-    let verdict = check(file);
-    let refused = verdict.number;
-    if refused != 0 {
-        return verdict;
+    let header = match read_file(file) {
+        Ok(header) => header,
+        Err(refused) => return refused.answer(),
+    };
+    let tracks = header.count as usize;
+    let times = ends.len();
+    if times < tracks {
+        return Answer::room_needed(tracks);
     }
-    match read_header(file) {
-        Err(refused) => refused.answer(),
-        Ok(header) => {
-            let tracks = header.count as usize;
-            let times = ends.len();
-            if times < tracks {
-                return Answer::room_needed(tracks);
-            }
-            if counts.len() < tracks {
-                return Answer::room_needed(tracks);
-            }
-            let third = padding.len();
-            if third < tracks {
-                return Answer::room_needed(tracks);
-            }
-            fill(file, tracks, header.next, ends, counts, padding);
-            Answer::success(tracks)
-        }
+    if counts.len() < tracks {
+        return Answer::room_needed(tracks);
     }
+    let third = padding.len();
+    if third < tracks {
+        return Answer::room_needed(tracks);
+    }
+    fill(file, tracks, header.next, ends, counts, padding);
+    Answer::success(tracks)
 }

@@ -5,7 +5,8 @@ ghost use Rattle.event.specs.Outcome.{Readable, value_or};
 ghost use Rattle.event.specs.Step.{kind_from};
 ghost use Rattle.event_write.specs.Written.{Written};
 ghost use Rattle.event_write.specs.Head.{manner_of, head_bytes, data_of};
-ghost use Rattle.smf.specs.Reader.{read_all, read_tracks, read_file};
+ghost use Rattle.smf.specs.Reader.{read_all, read_tracks, read_header, read_file};
+ghost use Rattle.smf.specs.Step.{header_step};
 ghost use Rattle.smf.specs.Manner.{file_of};
 ghost use Rattle.smf.specs.PieceRead.{piece_read};
 ghost use Rattle.smf.specs.Writing.{short_answer, short_leaves};
@@ -14,7 +15,7 @@ ghost use Rattle.smf_write.specs.Tidy.{step_of, events_in, track_in, tracks_in};
 use event::refusal::Refusal;
 use event::{Cursor, Delta, EventKind, Time};
 use event_write::bytes::{put_bytes, put_four, put_two};
-use smf::{Answer, HEADER_TAG, TRACK_TAG};
+use smf::{Answer, HEADER_TAG, HeaderRead, TRACK_TAG};
 
 // The longest file that is written, in bytes.
 const FILE_LIMIT: usize = 1048576;
@@ -114,15 +115,13 @@ fn put_tracks(
     next
 }
 
-// The file, in the manner asked, of the piece of a file that is known to read.
-fn put_file(out: &mut [u8], file: &[u8], short: bool) -> usize
-    requires fact_1 { length file.now ≤ 1048576 }
-    requires fact_2 { Readable (read_file file.now) }
+// The file, in the manner asked, of the piece of a file that is known to read, whose header was read.
+fn put_file(out: &mut [u8], file: &[u8], header: HeaderRead, short: bool) -> usize
+    requires small { length file.now ≤ 1048576 }
+    requires readable { Readable (read_file file.now) }
+    requires header { Ok header ≡ header_step (length file.now) (read_header file.now) }
     ensures { Written out.old 0 (file_of (manner_of short) (piece_read file.now)) out.new result }
 {
-    let Ok(header) = smf::header::read_header(file) else {
-        return 0;
-    };
     let bits = smf::header::division_bits(header.division);
     let a = put_four(out, 0, HEADER_TAG);
     let b = put_four(out, a, 6);
@@ -137,12 +136,11 @@ pub fn tidy(file: &[u8], out: &mut [u8]) -> Answer
     ensures fact_1 { result ≡ short_answer (length out.old) (read_file file.now) }
     ensures fact_2 { out.new ≡ short_leaves (read_file file.now) out.old }
 {
-    let verdict = smf::check::check(file);
-    let refused = verdict.number;
-    if refused != 0 {
-        return verdict;
-    }
-    let need = put_file(&mut out[..0], file, true);
+    let header = match smf::check::read_file(file) {
+        Ok(header) => header,
+        Err(refused) => return refused.answer(),
+    };
+    let need = put_file(&mut out[..0], file, header, true);
     if FILE_LIMIT < need {
         return Answer::refuse(Refusal::WrittenTooLong, 0);
     }
@@ -150,6 +148,6 @@ pub fn tidy(file: &[u8], out: &mut [u8]) -> Answer
     if too_small {
         return Answer::room_needed(need);
     }
-    put_file(out, file, true);
+    put_file(out, file, header, true);
     Answer::success(need)
 }

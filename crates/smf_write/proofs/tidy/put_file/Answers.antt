@@ -1,4 +1,3 @@
-use Rattle.event.specs.Refusal.{number_of}
 use Rattle.event.proofs.BytesLaws.{bytes_of, length_big_endian}
 use Rattle.event_write.proofs.WriteLaws.{then}
 use Rattle.event_write.specs.Head.{manner_of}
@@ -6,7 +5,7 @@ use Rattle.smf.specs.Chunk.{header_tag}
 use Rattle.smf.specs.Layout.{lay_header, lay_division}
 use Rattle.smf.proofs.VerdictLaws.{head_at}
 use Rattle.smf.proofs.ListLaws.{accepted_readable}
-use Rattle.smf.proofs.AcceptedLaws.{headed, header_there, file_accepted}
+use Rattle.smf.proofs.AcceptedLaws.{headed, file_accepted}
 use Rattle.smf_write.proofs.FileLaws.{file_bytes}
 use native.Mathlib.Omega.{arith}
 use mathlib.Core.Path.{sym}
@@ -15,8 +14,8 @@ use Rattle.smf_write.proofs.tidy.put_file.Goals as goal
 pub division_bits-bits-requires : goal.division_bits-bits-requires
 division_bits-bits-requires c = let s = c.args.file.now in
     let bytes = bytes_of s (λ i. omega (arith, c.type_inv.file i)) in
-    let came = sym c.in-Ok.ensures in
-    (headed s c.in-Ok.header.format c.in-Ok.header.count c.in-Ok.header.division c.in-Ok.header.next bytes came (file_accepted s c.in-Ok.header.format c.in-Ok.header.count c.in-Ok.header.division c.in-Ok.header.next bytes came c.requires.fact_2)).lawful
+    let came = sym c.requires.header in
+    (headed s c.args.header.format c.args.header.count c.args.header.division c.args.header.next bytes came (file_accepted s c.args.header.format c.args.header.count c.args.header.division c.args.header.next bytes came c.requires.readable)).lawful
 
 pub put_four-b-requires : goal.put_four-b-requires
 put_four-b-requires c = omega (arith, c.put_four-a.ensures.place, length_big_endian 4 header_tag)
@@ -25,29 +24,24 @@ pub put_two-c-requires : goal.put_two-c-requires
 put_two-c-requires c = omega (arith, c.put_four-b.ensures.place, c.put_four-a.ensures.place, length_big_endian 4 header_tag, length_big_endian 4 6)
 
 pub put_two-d-requires : goal.put_two-d-requires
-put_two-d-requires c = omega (arith, c.put_two-c.ensures.place, length_big_endian 2 c.in-Ok.header.format, c.put_four-b.ensures.place, c.put_four-a.ensures.place, length_big_endian 4 header_tag, length_big_endian 4 6)
+put_two-d-requires c = omega (arith, c.put_two-c.ensures.place, length_big_endian 2 c.args.header.format, c.put_four-b.ensures.place, c.put_four-a.ensures.place, length_big_endian 4 header_tag, length_big_endian 4 6)
 
 pub put_two-e-requires : goal.put_two-e-requires
-put_two-e-requires c = omega (arith, c.put_two-d.ensures.place, length_big_endian 2 c.in-Ok.header.count, c.put_two-c.ensures.place, length_big_endian 2 c.in-Ok.header.format, c.put_four-b.ensures.place, c.put_four-a.ensures.place, length_big_endian 4 header_tag, length_big_endian 4 6)
+put_two-e-requires c = omega (arith, c.put_two-d.ensures.place, length_big_endian 2 c.args.header.count, c.put_two-c.ensures.place, length_big_endian 2 c.args.header.format, c.put_four-b.ensures.place, c.put_four-a.ensures.place, length_big_endian 4 header_tag, length_big_endian 4 6)
 
 pub put_tracks-requires : goal.put_tracks-requires
 put_tracks-requires c = let s = c.args.file.now in
     let bytes = bytes_of s (λ i. omega (arith, c.type_inv.file i)) in
-    let came = sym c.in-Ok.ensures in
-    let there = file_accepted s c.in-Ok.header.format c.in-Ok.header.count c.in-Ok.header.division c.in-Ok.header.next bytes came c.requires.fact_2 in
-    record { fact_1 = omega (arith, c.put_two-e.ensures.place, length_big_endian 2 c.division_bits-bits.result, c.put_two-d.ensures.place, length_big_endian 2 c.in-Ok.header.count, c.put_two-c.ensures.place, length_big_endian 2 c.in-Ok.header.format, c.put_four-b.ensures.place, c.put_four-a.ensures.place, length_big_endian 4 header_tag, length_big_endian 4 6); fact_2 = (head_at s c.in-Ok.header.format c.in-Ok.header.count c.in-Ok.header.division c.in-Ok.header.next bytes came).inside; fact_3 = c.requires.fact_1; fact_4 = accepted_readable s c.in-Ok.header.count c.in-Ok.header.next there }
-
-pub returns-in_default : goal.returns-in_default
-returns-in_default c = let s = c.args.file.now in
-    let bytes = bytes_of s (λ i. omega (arith, c.type_inv.file i)) in
-    absurd (header_there s (number_of c.in_default.field-0.why) c.in_default.field-0.place (sym c.in_default.ensures) c.requires.fact_2)
+    let came = sym c.requires.header in
+    let there = file_accepted s c.args.header.format c.args.header.count c.args.header.division c.args.header.next bytes came c.requires.readable in
+    record { fact_1 = omega (arith, c.put_two-e.ensures.place, length_big_endian 2 c.division_bits-bits.result, c.put_two-d.ensures.place, length_big_endian 2 c.args.header.count, c.put_two-c.ensures.place, length_big_endian 2 c.args.header.format, c.put_four-b.ensures.place, c.put_four-a.ensures.place, length_big_endian 4 header_tag, length_big_endian 4 6); fact_2 = (head_at s c.args.header.format c.args.header.count c.args.header.division c.args.header.next bytes came).inside; fact_3 = c.requires.small; fact_4 = accepted_readable s c.args.header.count c.args.header.next there }
 
 pub returns : goal.returns
 unfolding lay_header lay_division
 returns c = let a = c.args in
     let s = a.file.now in
     let bytes = bytes_of s (λ i. omega (arith, c.type_inv.file i)) in
-    let came = sym c.in-Ok.ensures in
-    let there = file_accepted s c.in-Ok.header.format c.in-Ok.header.count c.in-Ok.header.division c.in-Ok.header.next bytes came c.requires.fact_2 in
-    rw (file_bytes (manner_of a.short) s c.in-Ok.header.format c.in-Ok.header.count c.in-Ok.header.division c.in-Ok.header.next bytes came there, ← c.division_bits-bits.ensures)
+    let came = sym c.requires.header in
+    let there = file_accepted s c.args.header.format c.args.header.count c.args.header.division c.args.header.next bytes came c.requires.readable in
+    rw (file_bytes (manner_of a.short) s c.args.header.format c.args.header.count c.args.header.division c.args.header.next bytes came there, ← c.division_bits-bits.ensures)
     (then c.put_four-a.ensures (then c.put_four-b.ensures (then c.put_two-c.ensures (then c.put_two-d.ensures (then c.put_two-e.ensures c.put_tracks.ensures)))))
