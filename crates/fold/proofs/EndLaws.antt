@@ -1,12 +1,12 @@
 -- The end of a merge: every row stands at its track's End_track.
 use mathlib.Core.Path.{◌≡◌, refl, sym, ap, ap₂, ◌∙◌, subst}
-use Prim.Native.Nat.{ℕ, zero, suc, ◌+◌, ◌-◌, ◌≤◌, ◌<◌, max}
+use Prim.Native.Nat.{ℕ, suc, ◌+◌, ◌-◌, ◌≤◌, ◌<◌, max}
 use mathlib.Core.Bool.{true}
 use mathlib.Core.List.{List, [], ◌∷◌, ◌++◌, map, append-nil}
 use native.Mathlib.Omega.{arith}
 use native.Mathlib.Numerals.{add-one}
-use lib.ListN.{length, take, drop, get_or, set, get_or-map, length-map, replicate, length-replicate}
-use lib.Seq.{take-suc, drop-cons, set_at}
+use lib.ListN.{length, take, drop, get_or, get_or-map, length-map, replicate}
+use lib.Seq.{take-suc}
 use Rattle.event.specs.Event.{is_end}
 use Rattle.event.specs.Manner.{short}
 use Rattle.event.specs.Step.{kind_at, kind_from}
@@ -138,11 +138,3 @@ greatest_more ts i h = rw (add-one i, take-suc ts i 0 h) (greatest_last (take i 
     greatest_last : (xs : List ℕ) (y : ℕ) → greatest (xs ++ (y ∷ [])) ≡ max (greatest xs) y
     greatest_last [] y = omega arith
     greatest_last (x ∷ xs) y = omega (arith, greatest_last xs y)
-
-pub clear_more : (l : List ℕ) (i : ℕ) → i < length l → set (replicate i 0 ++ drop i l) i 0 ≡ replicate (i + 1) 0 ++ drop (i + 1) l
-clear_more l i h =
-    rw (drop-cons l i 0 h, set_at (replicate i 0) (get_or l i 0) (drop (suc i) l) 0 i (length-replicate i 0), add-one i) (zeros_last i (drop (suc i) l))
-  where
-    zeros_last : (k : ℕ) (r : List ℕ) → replicate k 0 ++ (0 ∷ r) ≡ replicate (suc k) 0 ++ r
-    zeros_last zero r = refl
-    zeros_last (suc k) r = ap (λ z. 0 ∷ z) (zeros_last k r)
