@@ -1,57 +1,12 @@
 // Folds a few files with lent rows: the C face of fold has rows of its own, so they are seen here only.
 #![tactic(auto)]
 
-ghost use Rattle.std.specs.Prelude.{◌≤◌, length};
-
-use smf::Answer;
-use std::fmt::Display;
-use std::io::Read;
+use program_io::{Answered, Listed, read_full};
 use std::rt::Files;
 use std::{fs, io};
 
 // How much of a file is read: of a longer one, its first bytes are folded.
 const BUFFER_LENGTH: usize = 4096;
-
-// Reads until the buffer is full or the file ends, and says how many bytes came. A read that fails
-// counts as the end.
-fn read_full(file: &mut impl Read, buffer: &mut [u8]) -> usize
-    ensures { result ≤ length buffer.new }
-{
-    let mut filled = 0;
-    // Every read but the last brings a byte or more, so no more reads than bytes are wanted.
-    for _ in 0..buffer.len() {
-        let got = file.read(&mut buffer[filled..]).unwrap_or(0);
-        if got == 0 {
-            break;
-        }
-        filled += got;
-    }
-    filled
-}
-
-fn number<N: Display>(rt: &impl Print, number: &N) -> io::Result<()> {
-    print!(rt; "{number} ")
-}
-
-fn end_line(rt: &impl Print) -> io::Result<()> {
-    println!(rt; "")
-}
-
-// A list of places, Times, statuses or bytes.
-fn line<N: Display>(rt: &impl Print, list: &[N]) -> io::Result<()> {
-    for entry in list {
-        number(rt, entry)?;
-    }
-    end_line(rt)
-}
-
-// Number, place and length of the answer.
-fn answered(rt: &impl Print, path: &str, answer: Answer) -> io::Result<()> {
-    println!(rt;
-        "{path}: {} {} {} ",
-        answer.number, answer.place, answer.length
-    )
-}
 
 // One file into lent room: number, place and length of the answer, then the rows, list by list, and the whole room. Rows and room
 // hold sevens before, so that what stayed is told from what was written.
@@ -67,11 +22,11 @@ fn fold_file(rt: &(impl Files + Print + Eprint), path: &str, room: &mut [u8]) ->
     let mut times = [7u32; 4];
     let mut statuses = [7u8; 4];
     let answer = fold::fold(&buffer[..got], room, &mut places, &mut times, &mut statuses);
-    answered(rt, path, answer)?;
-    line(rt, &places)?;
-    line(rt, &times)?;
-    line(rt, &statuses)?;
-    line(rt, room)
+    println!(rt; "{path}: {}", Answered(answer))?;
+    println!(rt; "{}", Listed(&places))?;
+    println!(rt; "{}", Listed(&times))?;
+    println!(rt; "{}", Listed(&statuses))?;
+    println!(rt; "{}", Listed(room))
 }
 
 // In more room than any of the folded files takes.

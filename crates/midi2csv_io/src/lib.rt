@@ -2,9 +2,10 @@
 // same code on further files: a program has one standard input to be tested on.
 #![tactic(auto)]
 
-ghost use Rattle.std.specs.Prelude.{◌≡◌, ◌≤◌, length};
+ghost use Rattle.std.specs.Prelude.{◌≡◌, length};
 ghost use Rattle.midi2csv_io.specs.Program.{program_answer, program_leaves};
 
+use program_io::read_full;
 use smf::Answer;
 use std::io;
 use std::io::Read;
@@ -39,22 +40,6 @@ fn convert_file(rt: &impl Print, file: &[u8], room: &mut [u8]) -> io::Result<()>
     } else {
         write_refusal(rt, answer.number, answer.place)
     }
-}
-
-// Reads until the buffer is full or the source ends, and says how many bytes came.
-fn read_full(source: &mut impl Read, buffer: &mut [u8]) -> usize
-    ensures { result ≤ length buffer.new }
-{
-    let mut filled = 0;
-    // Every read but the last brings a byte or more, so no more reads than bytes are wanted.
-    for _ in 0..buffer.len() {
-        let got = source.read(&mut buffer[filled..]).unwrap_or(0);
-        if got == 0 {
-            break;
-        }
-        filled += got;
-    }
-    filled
 }
 
 // Converts what a source gives until its end; a read that fails counts as the end.
