@@ -11,6 +11,8 @@ pub mod field; // field.rt: the field at a place
 pub mod fields; // fields.rt: all fields of a line
 pub mod frame; // frame.rt: the lines of a text
 
+pub use ends::past;
+
 // A field: its value, or where it stands (a text from after its opening quote on); next is the
 // place of the comma after it, or the line's end.
 #[derive(Clone, Copy)]
