@@ -6,17 +6,18 @@ use mathlib.Core.List.{List, [], ◌∷◌, ◌++◌, append-nil}
 use native.Mathlib.Omega.{arith}
 use native.Mathlib.Numerals.{add-one}
 use lib.ListN.{length, get_or, take, drop, length-drop, drop_of_length-le}
-use lib.Seq.{drop-cons, get_or-drop, length-take-le, take-append_seam}
+use lib.Seq.{drop-cons, length-take-le, take-append_seam}
 use lib.Dec.{eqb}
 use borrow.Author.Tests.{eqb-true}
 use Rattle.std.proofs.Common.{one-add, not}
 use Rattle.std.specs.List.{prefix_len}
-use Rattle.std.proofs.lemmas.List.{drop-drop, take-append-drop}
-use Rattle.std.proofs.lemmas.List.Sums.{prefix_len-le-length, prefix_len_stops}
+use Rattle.std.proofs.lemmas.List.{take-append-drop}
+use Rattle.std.proofs.lemmas.List.Sums.{prefix_len-le-length}
 use Rattle.event.proofs.ChoiceLaws.{by_test}
 use Rattle.midicsv.specs.Lines.{lines_of}
 use Rattle.midicsv.proofs.LineLaws.{NoFeed, lines_feed, lines_last}
 use Rattle.midicsv_scan.specs.Cut.{CutAt}
+use Rattle.midicsv_scan.proofs.RunLaws.{run_inside, run_rest, run_stops}
 
 -- no LF from i to e
 pub record Scanning (s : List ℕ) (i e : ℕ) : Type 0 where
@@ -41,18 +42,15 @@ scanned s i e h m =
     record {
       line = take n (drop i s);
       clean = clean_front (drop i s);
-      splits = rw (m, ← drop-drop n i s) (sym (take-append-drop n (drop i s)));
+      splits = sym (take-append-drop n (drop i s)) ∙ ap (λ z. take n (drop i s) ++ z) (run_rest in_line s i e m);
       size = omega (arith, length-take-le n (drop i s) k);
-      high = omega (arith, length-drop i s);
+      high = run_inside in_line s i e m h;
     }
 
 -- what ends a line is a LF
 pub line_stops : (s : List ℕ) (i e : ℕ) → e ≡ i + prefix_len in_line (drop i s) → e < length s → get_or s e 0 ≡ 10
 line_stops s i e m h =
-    let n = prefix_len in_line (drop i s) in
-    let k : n < length (drop i s) = omega (arith, length-drop i s) in
-    let t : not (eqb (get_or s e 0) 10) ≡ false = rw (m, ← get_or-drop i s n 0) (prefix_len_stops in_line (drop i s) 0 k) in
-    by_test (eqb (get_or s e 0) 10) (λ q. eqb-true (get_or s e 0) 10 q) (λ q. cc (rw q at t))
+    let t = run_stops in_line s i e m h in by_test (eqb (get_or s e 0) 10) (λ q. eqb-true (get_or s e 0) 10 q) (λ q. cc (rw q at t))
 
 the_line : (s : List ℕ) (i e : ℕ) (a : Scanning s i e) → take (e - i) (drop i s) ≡ a.line
 the_line s i e a =

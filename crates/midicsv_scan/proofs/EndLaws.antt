@@ -3,8 +3,6 @@ use mathlib.Core.Path.{◌≡◌, refl, sym, ap, ◌∙◌}
 use Prim.Native.Nat.{ℕ, ◌+◌, ◌-◌, ◌<◌, ◌≤◌}
 use Rattle.std.proofs.Common.{Option, Some, None, one-add}
 use Rattle.std.specs.List.{prefix_len}
-use Rattle.std.proofs.lemmas.List.{drop-drop}
-use Rattle.std.proofs.lemmas.List.Sums.{prefix_len-le-length}
 use mathlib.Core.List.{List, [], ◌∷◌, ◌++◌}
 use native.Mathlib.Omega.{arith}
 use lib.ListN.{length, take, drop, get_or, length-append, length-drop, drop_of_length-le}
@@ -16,6 +14,7 @@ use Rattle.event.proofs.OutcomeLaws.{ok_same}
 use Rattle.midicsv.specs.ReadField.{is_blank, is_letter, skip, read_name, at_comma, finish}
 use Rattle.midicsv.proofs.FieldPartLaws.{push_ok}
 use Rattle.midicsv_scan.specs.Part.{EndWithin, Skipped, ending, NameEnds, closed_as, Closes}
+use Rattle.midicsv_scan.proofs.RunLaws.{run_inside, run_rest}
 use Rattle.midicsv_scan.proofs.TextLaws.{ending_push, ending_ok}
 
 -- ---- blanks: those in front are skipped
@@ -26,13 +25,7 @@ skip_front [] = refl
 skip_front (c ∷ l) = by_test (is_blank c) (λ t. rw (t, one-add) (pick_true _ _ refl ∙ skip_front l)) (λ t. rw t (pick_false _ _ refl))
 
 pub skipped : (l : List ℕ) (at p : ℕ) → at ≤ length l → p ≡ at + prefix_len is_blank (drop at l) → Skipped l at p
-skipped l at p h e =
-    rw e
-    record {
-      low = omega arith;
-      high = omega (arith, prefix_len-le-length is_blank (drop at l), length-drop at l);
-      same = skip_front (drop at l) ∙ drop-drop (prefix_len is_blank (drop at l)) at l;
-    }
+skipped l at p h e = record { low = omega arith; high = run_inside is_blank l at p e h; same = skip_front (drop at l) ∙ run_rest is_blank l at p e }
 
 -- ---- names
 
@@ -62,10 +55,7 @@ named l at p a b e =
 
 pub name_ends : (l : List ℕ) (at p : ℕ) → at ≤ length l → p ≡ at + prefix_len is_letter (drop at l) → NameEnds l at p
 name_ends l at p h e =
-    let n : prefix_len is_letter (drop at l) ≤ length (drop at l) = prefix_len-le-length is_letter (drop at l) in
-    let s : ending (read_name (drop at l)) ≡ ok 0 (drop p l) =
-    rw e (name_front (drop at l) ∙ ap (ok 0) (drop-drop (prefix_len is_letter (drop at l)) at l)) in
-    named l at p (omega arith) (omega (arith, length-drop at l)) s
+    named l at p (omega arith) (run_inside is_letter l at p e h) (name_front (drop at l) ∙ ap (ok 0) (run_rest is_letter l at p e))
 
 -- ---- the end of the line or a comma
 

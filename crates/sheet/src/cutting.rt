@@ -2,8 +2,9 @@
 ghost use Rattle.std.specs.Prelude.{◌≡◌, ◌≤◌, length};
 ghost use Rattle.sheet.specs.Code.Cell.{CellIs, BareEnd, QuoteEnd, ClosedTo, QuotedIs, BareIs};
 
+use super::Cell;
 use super::part::{after_byte, is_blank_beside, skip_beside};
-use super::{Cell, CellStep};
+use midicsv_scan::past;
 
 // The place of the separator from a place on, or the part's end: there a bare cell ends.
 fn bare_end(part: &[u8], at: usize, sep: u8, twice: bool) -> usize
@@ -28,13 +29,10 @@ fn quote_end(part: &[u8], at: usize, twice: bool) -> usize
     let mut p = at;
     while p < part.len() {
         let next = after_byte(part, p, twice);
-        if part[p] != 34 {
+        if part[p] != b'"' {
             p = next;
         } else {
-            if part.len() <= next {
-                return p;
-            }
-            if part[next] != 34 {
+            if part.len() <= next || part[next] != b'"' {
                 return p;
             }
             p = after_byte(part, next, twice);
@@ -48,52 +46,37 @@ fn closed_end(part: &[u8], at: usize, sep: u8) -> usize
     requires { at ≤ length part.now }
     ensures { ClosedTo sep part.now at result }
 {
-    let mut p = at;
-    while p < part.len() {
-        let c = part[p];
-        if c == sep {
-            return p;
-        }
-        if !is_blank_beside(sep, c) {
-            return p;
-        }
-        p = p + 1;
-    }
-    p
+    past(part, at, |c| c != sep && is_blank_beside(sep, c))
 }
 
-// A quoted cell, from after its opening quote on: after the closing one only blanks may come.
-fn quoted_cell(part: &[u8], at: usize, sep: u8, twice: bool) -> CellStep
+// A quoted cell, from after its opening quote on, where it can be cut: after the closing one only blanks may come.
+fn quoted_cell(part: &[u8], at: usize, sep: u8, twice: bool) -> Option<Cell>
     requires { at ≤ length part.now }
     ensures { QuotedIs sep twice part.now at result }
 {
     let to = quote_end(part, at, twice);
     if part.len() <= to {
-        return CellStep::Open;
+        return None;
     }
     let next = closed_end(part, after_byte(part, to, twice), sep);
-    let found = Cell {
+    if next < part.len() && part[next] != sep {
+        return None;
+    }
+    Some(Cell {
         from: at,
         to,
         quoted: true,
         next,
-    };
-    if part.len() <= next {
-        return CellStep::Found(found);
-    }
-    if part[next] != sep {
-        return CellStep::Open;
-    }
-    CellStep::Found(found)
+    })
 }
 
 // A bare cell, blanks and all.
-fn bare_cell(part: &[u8], at: usize, sep: u8, twice: bool) -> CellStep
+fn bare_cell(part: &[u8], at: usize, sep: u8, twice: bool) -> Option<Cell>
     requires { at ≤ length part.now }
     ensures { BareIs sep twice part.now at result }
 {
     let to = bare_end(part, at, sep, twice);
-    CellStep::Found(Cell {
+    Some(Cell {
         from: at,
         to,
         quoted: false,
@@ -101,16 +84,13 @@ fn bare_cell(part: &[u8], at: usize, sep: u8, twice: bool) -> CellStep
     })
 }
 
-// The cell from a place on.
-pub fn cell_at(part: &[u8], at: usize, sep: u8, twice: bool) -> CellStep
+// The cell from a place on, where it can be cut: its quotes are closed, and no bytes follow them.
+pub fn cell_at(part: &[u8], at: usize, sep: u8, twice: bool) -> Option<Cell>
     requires { at ≤ length part.now }
     ensures { CellIs sep twice part.now at result }
 {
     let p = skip_beside(part, at, sep);
-    if part.len() <= p {
-        return bare_cell(part, at, sep, twice);
-    }
-    if part[p] != 34 {
+    if part.len() <= p || part[p] != b'"' {
         return bare_cell(part, at, sep, twice);
     }
     quoted_cell(part, after_byte(part, p, twice), sep, twice)

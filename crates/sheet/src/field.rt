@@ -7,28 +7,18 @@ ghost use Rattle.sheet_table.specs.Table.{doubled, requote, plain_cell};
 ghost use Rattle.sheet.specs.Code.Seen.{singled, seen};
 ghost use Rattle.sheet.specs.Code.Cell.{content_of};
 
+use super::COMMA;
 use super::part::after_byte;
 use event_write::bytes::{put_byte, put_bytes};
 
 // The comma, which ends a field that has no quotes.
-const FIELD_END: u8 = 44;
+const FIELD_END: u8 = COMMA;
 
 // Whether a comma or a quote is among the bytes.
 fn needs_quotes(raw: &[u8]) -> bool
     ensures { result ≡ (has 44 raw.now || has 34 raw.now) }
 {
-    let mut p = 0;
-    while p < raw.len() {
-        let c = raw[p];
-        if c == FIELD_END {
-            return true;
-        }
-        if c == 34 {
-            return true;
-        }
-        p = p + 1;
-    }
-    false
+    raw.contains(&FIELD_END) || raw.contains(&b'"')
 }
 
 // A byte, a quote twice where that is asked.
@@ -36,14 +26,11 @@ fn put_one(out: &mut [u8], at: usize, b: u8, double: bool) -> usize
     requires { at < 2 ^ 47 }
     ensures { Written out.old at (pick double (doubled (b ∷ [])) (b ∷ [])) out.new result }
 {
-    if !double {
+    if !double || b != b'"' {
         return put_byte(out, at, b);
     }
-    if b != 34 {
-        return put_byte(out, at, b);
-    }
-    let a = put_byte(out, at, 34);
-    put_byte(out, a, 34)
+    let a = put_byte(out, at, b'"');
+    put_byte(out, a, b'"')
 }
 
 // Bytes as they are read, each quote twice where that is asked.
@@ -68,9 +55,9 @@ fn put_quoted(out: &mut [u8], at: usize, raw: &[u8], twice: bool, quoted: bool) 
     requires fact_3 { (quoted ≡ true → doubled (singled (seen twice raw.now)) ≡ seen twice raw.now) }
     ensures { Written out.old at (requote (content_of quoted (seen twice raw.now))) out.new result }
 {
-    let a = put_byte(out, at, 34);
+    let a = put_byte(out, at, b'"');
     let b = put_seen(out, a, raw, twice, !quoted);
-    put_byte(out, b, 34)
+    put_byte(out, b, b'"')
 }
 
 // A cell's content as a field: in quotes where it is the text, or would fall apart.
@@ -87,10 +74,7 @@ pub fn put_cell(
     requires fact_3 { (quoted ≡ true → doubled (singled (seen twice raw.now)) ≡ seen twice raw.now) }
     ensures { Written out.old at (pick text (requote (content_of quoted (seen twice raw.now))) (plain_cell (content_of quoted (seen twice raw.now)))) out.new result }
 {
-    if text {
-        return put_quoted(out, at, raw, twice, quoted);
-    }
-    if needs_quotes(raw) {
+    if text || needs_quotes(raw) {
         return put_quoted(out, at, raw, twice, quoted);
     }
     put_bytes(out, at, raw)

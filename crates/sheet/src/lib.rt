@@ -9,6 +9,13 @@ mod rows; // rows.rt: a row as a line
 mod lines; // lines.rt: a line of the table as a line of the text
 pub mod table; // table.rt: the whole table
 
+// What can separate cells.
+const COMMA: u8 = b',';
+
+const SEMICOLON: u8 = b';';
+
+const TAB: u8 = b'\t';
+
 // A cell of a part of a line: its bytes (between the quotes, where it is quoted), and the place of the
 // separator after it or the part's end.
 #[derive(Clone, Copy)]
@@ -19,31 +26,11 @@ pub struct Cell {
     pub next: usize,
 }
 
-// The cell found, or that the line cannot be cut: a quote is not closed, or bytes follow it.
-#[derive(Clone, Copy)]
-pub enum CellStep {
-    Found(Cell),
-    Open,
-}
-
 // The cells of a row: how many, how many up to the last that is not empty, and how many stand before the
-// text (0 where the row has none).
+// text, where the row has one.
 #[derive(Clone, Copy)]
 pub struct Row {
     pub cells: usize,
     pub kept: usize,
-    pub place: usize,
-}
-
-#[derive(Clone, Copy)]
-pub enum RowStep {
-    Cells(Row),
-    Uncut,
-}
-
-// The one cell of a line whose other cells are empty.
-#[derive(Clone, Copy)]
-pub enum LoneStep {
-    Lone(Cell),
-    Several,
+    pub place: Option<usize>,
 }

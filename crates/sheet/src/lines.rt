@@ -9,9 +9,7 @@ ghost use Rattle.sheet.specs.Code.Walk.{all_empty_in, LoneWithin};
 use super::cutting::cell_at;
 use super::part::{is_empty_cell, is_remark_line};
 use super::rows::put_part;
-use super::{CellStep, LoneStep};
-
-const COMMA: u8 = 44;
+use super::{COMMA, Cell};
 
 // Whether the cells from a place after a separator on are all empty; no where the line cannot be cut.
 fn are_empty(line: &[u8], from: usize, sep: u8) -> bool
@@ -20,42 +18,32 @@ fn are_empty(line: &[u8], from: usize, sep: u8) -> bool
 {
     let mut at = from;
     loop {
-        let CellStep::Found(cell) = cell_at(line, at, sep, false) else {
+        let Some(cell) = cell_at(line, at, sep, false) else {
             return false;
         };
-        let a = cell.from;
-        let b = cell.to;
-        let next = cell.next;
-        let quoted = cell.quoted;
-        if !is_empty_cell(&line[a..b], false, quoted) {
+        if !is_empty_cell(&line[cell.from..cell.to], false, cell.quoted) {
             return false;
         }
-        if line.len() <= next {
+        if line.len() <= cell.next {
             return true;
         }
-        at = next + 1;
+        at = cell.next + 1;
     }
 }
 
-// The one cell of a line whose other cells are empty.
-fn lone_cell(line: &[u8], sep: u8) -> LoneStep
+// The one cell of a line whose other cells are empty, where there is one.
+fn lone_cell(line: &[u8], sep: u8) -> Option<Cell>
     ensures fact_1 { LoneIs sep line.now result }
     ensures fact_2 { LoneWithin line.now result }
 {
     if is_remark_line(line, sep, false) {
-        return LoneStep::Several;
+        return None;
     }
-    let CellStep::Found(cell) = cell_at(line, 0, sep, false) else {
-        return LoneStep::Several;
-    };
-    let next = cell.next;
-    if line.len() <= next {
-        return LoneStep::Lone(cell);
+    let cell = cell_at(line, 0, sep, false)?;
+    if line.len() <= cell.next || are_empty(line, cell.next + 1, sep) {
+        return Some(cell);
     }
-    if are_empty(line, next + 1, sep) {
-        return LoneStep::Lone(cell);
-    }
-    LoneStep::Several
+    None
 }
 
 // The line of the text.
@@ -64,11 +52,8 @@ pub fn put_line(out: &mut [u8], at: usize, line: &[u8], sep: u8) -> usize
     requires fact_2 { length line.now ≤ 268435456 }
     ensures { Written out.old at (table_line sep line.now) out.new result }
 {
-    let LoneStep::Lone(cell) = lone_cell(line, sep) else {
-        return put_part(out, at, line, sep, false);
-    };
-    let from = cell.from;
-    let to = cell.to;
-    let quoted = cell.quoted;
-    put_part(out, at, &line[from..to], COMMA, quoted)
+    match lone_cell(line, sep) {
+        Some(cell) => put_part(out, at, &line[cell.from..cell.to], COMMA, cell.quoted),
+        None => put_part(out, at, line, sep, false),
+    }
 }

@@ -1,5 +1,5 @@
 // A row of cells as a line of a text.
-ghost use Rattle.std.specs.Prelude.{◌≡◌, ◌&&◌, not, ◌<◌, ◌≤◌, ◌^◌, eqb, length};
+ghost use Rattle.std.specs.Prelude.{◌≡◌, ◌&&◌, not, is_none, ◌<◌, ◌≤◌, ◌^◌, eqb, length};
 ghost use Rattle.event.specs.Choice.{pick};
 ghost use Rattle.event_write.specs.Written.{Written};
 ghost use Rattle.midicsv.specs.ReadField.{read_field};
@@ -14,7 +14,7 @@ use super::cutting::cell_at;
 use super::field::{put_cell, put_seen};
 use super::name::text_place;
 use super::part::{after_byte, is_empty_cell, is_remark_line};
-use super::{CellStep, Row, RowStep};
+use super::{COMMA, Row};
 use event_write::bytes::{put_byte, put_bytes};
 
 // How many cells stand up to the last that is not empty, after the cell numbered cells - 1.
@@ -22,13 +22,20 @@ fn kept_after(kept: usize, cells: usize, raw: &[u8], twice: bool, quoted: bool) 
     ensures { result ≡ pick (is_empty (content_of quoted (seen twice raw.now))) kept cells }
 {
     if is_empty_cell(raw, twice, quoted) {
-        return kept;
+        kept
+    } else {
+        cells
     }
-    cells
 }
 
 // How many cells stand before the text, after the cell numbered cells - 1: the third tells.
-fn place_after(place: usize, cells: usize, raw: &[u8], twice: bool, quoted: bool) -> usize
+fn place_after(
+    place: Option<usize>,
+    cells: usize,
+    raw: &[u8],
+    twice: bool,
+    quoted: bool,
+) -> Option<usize>
     ensures { place_as result ≡ pick (eqb cells 3) (text_of_name (name_in (read_field (content_of quoted (seen twice raw.now))))) (place_as place) }
 {
     if cells == 3 {
@@ -48,29 +55,23 @@ fn with_cell(row: Row, raw: &[u8], twice: bool, quoted: bool) -> Row
     Row { cells, kept, place }
 }
 
-// Looks through a row.
-pub fn look(part: &[u8], sep: u8, twice: bool) -> RowStep
+// Looks through a row, where it can be cut.
+pub fn look(part: &[u8], sep: u8, twice: bool) -> Option<Row>
     ensures { RowIs sep twice part.now result }
 {
     let mut row = Row {
         cells: 0,
         kept: 0,
-        place: 0,
+        place: None,
     };
     let mut at = 0;
     loop {
-        let CellStep::Found(cell) = cell_at(part, at, sep, twice) else {
-            return RowStep::Uncut;
-        };
-        let from = cell.from;
-        let to = cell.to;
-        let next = cell.next;
-        let quoted = cell.quoted;
-        row = with_cell(row, &part[from..to], twice, quoted);
-        if part.len() <= next {
-            return RowStep::Cells(row);
+        let cell = cell_at(part, at, sep, twice)?;
+        row = with_cell(row, &part[cell.from..cell.to], twice, cell.quoted);
+        if part.len() <= cell.next {
+            return Some(row);
         }
-        at = after_byte(part, next, twice);
+        at = after_byte(part, cell.next, twice);
     }
 }
 
@@ -79,19 +80,11 @@ fn field_count(row: Row) -> usize
     requires { row.cells < 2 ^ 32 }
     ensures { result ≡ field_count row.place row.cells row.kept }
 {
-    let place = row.place;
-    let cells = row.cells;
-    let kept = row.kept;
-    if place == 0 {
-        return kept;
+    match row.place {
+        None => row.kept,
+        Some(place) if row.cells < place => row.cells,
+        Some(place) => row.kept.max(place + 1),
     }
-    if cells < place {
-        return cells;
-    }
-    if kept <= place {
-        return place + 1;
-    }
-    kept
 }
 
 // A comma before a field that is not the first.
@@ -102,17 +95,7 @@ fn put_comma(out: &mut [u8], at: usize, i: usize) -> usize
     if i == 0 {
         return at;
     }
-    put_byte(out, at, 44)
-}
-
-// Whether the cell numbered i is the text.
-fn is_text(place: usize, i: usize) -> bool
-    ensures { result ≡ (eqb i place && not (eqb place 0)) }
-{
-    if place == 0 {
-        return false;
-    }
-    i == place
+    put_byte(out, at, COMMA)
 }
 
 // The place after a cell that ends at a place.
@@ -135,7 +118,7 @@ fn put_row(
     sep: u8,
     twice: bool,
     count: usize,
-    place: usize,
+    place: Option<usize>,
 ) -> usize
     requires fact_1 { at < 2 ^ 38 }
     requires fact_2 { length part.now ≤ 268435456 }
@@ -144,55 +127,32 @@ fn put_row(
 {
     let mut next = at;
     let mut p = 0;
-    let mut i = 0;
-    while i < count {
+    for i in 0..count {
         let start = put_comma(out, next, i);
-        let CellStep::Found(cell) = cell_at(part, p, sep, twice) else {
+        let Some(cell) = cell_at(part, p, sep, twice) else {
             return start;
         };
-        let from = cell.from;
-        let to = cell.to;
-        let end = cell.next;
-        let quoted = cell.quoted;
-        let text = is_text(place, i);
-        next = put_cell(out, start, &part[from..to], twice, quoted, text);
-        p = after_cell(part, end, twice);
-        i = i + 1;
+        let text = place == Some(i);
+        next = put_cell(
+            out,
+            start,
+            &part[cell.from..cell.to],
+            twice,
+            cell.quoted,
+            text,
+        );
+        p = after_cell(part, cell.next, twice);
     }
     next
-}
-
-// Whether a quote is among the bytes.
-fn has_quote(part: &[u8]) -> bool
-    ensures { result ≡ has 34 part.now }
-{
-    let mut p = 0;
-    while p < part.len() {
-        let c = part[p];
-        if c == 34 {
-            return true;
-        }
-        p = p + 1;
-    }
-    false
 }
 
 // Whether a row stands in its line as it is: commas part its cells, none is a text, none at the end is
 // empty, and there is no quote in it. So are most rows, and such a row need not be written cell by cell.
 // The quote is looked for last, since only that takes a walk through the row.
 fn stands(part: &[u8], sep: u8, row: Row) -> bool
-    ensures { result ≡ (eqb sep 44 && (eqb row.place 0 && (eqb row.kept row.cells && not (has 34 part.now)))) }
+    ensures { result ≡ (eqb sep 44 && (is_none row.place && (eqb row.kept row.cells && not (has 34 part.now)))) }
 {
-    if sep != 44 {
-        return false;
-    }
-    if row.place != 0 {
-        return false;
-    }
-    if row.kept != row.cells {
-        return false;
-    }
-    !has_quote(part)
+    sep == COMMA && row.place.is_none() && row.kept == row.cells && !part.contains(&b'"')
 }
 
 // A part of a line, cut into cells, as a line of a text.
@@ -204,15 +164,11 @@ pub fn put_part(out: &mut [u8], at: usize, part: &[u8], sep: u8, twice: bool) ->
     if is_remark_line(part, sep, twice) {
         return put_seen(out, at, part, twice, false);
     }
-    match look(part, sep, twice) {
-        RowStep::Uncut => put_byte(out, at, 34),
-        RowStep::Cells(row) => {
-            if stands(part, sep, row) {
-                return put_bytes(out, at, part);
-            }
-            let count = field_count(row);
-            let place = row.place;
-            put_row(out, at, part, sep, twice, count, place)
-        }
+    let Some(row) = look(part, sep, twice) else {
+        return put_byte(out, at, b'"');
+    };
+    if stands(part, sep, row) {
+        return put_bytes(out, at, part);
     }
+    put_row(out, at, part, sep, twice, field_count(row), row.place)
 }

@@ -1,19 +1,11 @@
-use native.Mathlib.Omega.{arith}
-use Rattle.sheet.proofs.FieldLaws.{needing_comma, needing_quote, needing_on, needing_end}
-use mathlib.Core.Path.{refl}
+use mathlib.Core.Path.{◌≡◌, ◌∙◌}
+use mathlib.Core.Bool.{true, false}
+use Rattle.sheet_table.specs.Cut.{has}
+use Rattle.sheet.proofs.FieldLaws.{has_any}
 use Rattle.sheet.proofs.field.needs_quotes.Goals as goal
 
-pub loop-p-init : goal.loop-p-init
-loop-p-init c = refl
+pub returns-then-contains : goal.returns-then-contains
+returns-then-contains c = let t : true ≡ has 44 c.args.raw.now = c.if-contains.ensures.value ∙ has_any 44 _ in rw (← t) c.if-contains.true
 
-pub returns-then-c-eq-FIELD_END : goal.returns-then-c-eq-FIELD_END
-returns-then-c-eq-FIELD_END c = let l = c.loop-p in needing_comma c.args.raw.now l.p l.invariant c.loop-p-test.true (omega (arith, c.if-c-eq-FIELD_END.true))
-
-pub returns-then-c-eq34 : goal.returns-then-c-eq34
-returns-then-c-eq34 c = let l = c.loop-p in needing_quote c.args.raw.now l.p l.invariant c.loop-p-test.true c.if-c-eq34.true
-
-pub loop-p-preserved : goal.loop-p-preserved
-loop-p-preserved c = let l = c.loop-p in needing_on c.args.raw.now l.p l.invariant c.loop-p-test.true (λ e. omega (arith, c.if-c-eq-FIELD_END.false, e)) c.if-c-eq34.false
-
-pub returns : goal.returns
-returns c = let l = c.loop-p in needing_end c.args.raw.now l.p l.invariant c.loop-p-test.false
+pub returns-else-contains : goal.returns-else-contains
+returns-else-contains c = let f : false ≡ has 44 c.args.raw.now = c.if-contains.ensures.value ∙ has_any 44 _ in rw (← f) (c.contains-else-contains.ensures.value ∙ has_any 34 _)

@@ -1,10 +1,5 @@
-use Prim.Native.Nat.{◌-◌}
-use lib.ListN.{length}
-use Rattle.sheet.proofs.BlankLaws.{Skipping}
+use Rattle.sheet_table.specs.Cut.{blank_beside}
 use Rattle.sheet.proofs.part.skip_beside.Given as goal
 
-abbrev pub invariant-loop-p : goal.invariant-loop-p
-invariant-loop-p l = Skipping l.sep l.part l.at l.p
-
-abbrev pub decreases-loop-p : goal.decreases-loop-p
-decreases-loop-p l = length l.part - l.p
+abbrev pub ghost-past : goal.ghost-past
+ghost-past a = blank_beside a.test.0.now

@@ -1,15 +1,15 @@
 use native.Mathlib.Omega.{arith}
-use Rattle.sheet.proofs.FieldsInLaws.{count_nowhere, count_short, count_empty, count_kept}
+use mathlib.Core.Path.{◌≡◌, ◌∙◌}
+use Rattle.sheet.proofs.FieldsInLaws.{count_nowhere, count_short, count_text}
 use Rattle.sheet.proofs.rows.field_count.Goals as goal
 
-pub returns-then-place-eq0 : goal.returns-then-place-eq0
-returns-then-place-eq0 c = count_nowhere c.args.row.place c.args.row.cells c.args.row.kept c.if-place-eq0.true
+pub returns-in-None : goal.returns-in-None
+returns-in-None c = count_nowhere _ _ _ c.in-None.is
 
-pub returns-then-cells-place : goal.returns-then-cells-place
-returns-then-cells-place c = count_short c.args.row.place c.args.row.cells c.args.row.kept c.if-place-eq0.false (omega (arith, c.if-cells-place.true))
+pub returns-in-Some : goal.returns-in-Some
+returns-in-Some c = count_short _ _ _ _ c.in-Some.is c.if-row-place.true
 
-pub returns-then-kept-place : goal.returns-then-kept-place
-returns-then-kept-place c = count_empty c.args.row.place c.args.row.cells c.args.row.kept c.if-place-eq0.false (omega (arith, c.if-cells-place.false)) c.if-kept-place.true
-
-pub returns : goal.returns
-returns c = count_kept c.args.row.place c.args.row.cells c.args.row.kept c.if-place-eq0.false (omega (arith, c.if-cells-place.false)) c.if-kept-place.false
+pub returns-in-Some-2 : goal.returns-in-Some-2
+returns-in-Some-2 c =
+    let z : c.in-Some.place ≡ c.in-Some-2.place = cc in
+    c.max.ensures ∙ count_text _ _ _ _ c.in-Some-2.is (omega (arith, z))

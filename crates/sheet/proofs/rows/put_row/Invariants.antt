@@ -1,4 +1,3 @@
-use Prim.Native.Nat.{◌-◌}
 use lib.ListN.{length}
 use Rattle.sheet.proofs.RowLaws.{RowLeft}
 use mathlib.Core.Path.{◌≡◌}
@@ -6,6 +5,3 @@ use Rattle.sheet.proofs.rows.put_row.Given as goal
 
 abbrev pub invariant-loop-i : goal.invariant-loop-i
 invariant-loop-i l = (length l.out ≡ length l.initial.out) × RowLeft l.sep l.twice l.part l.count l.place l.initial.out l.at l.out l.next l.p l.i
-
-abbrev pub decreases-loop-i : goal.decreases-loop-i
-decreases-loop-i l = l.count - l.i

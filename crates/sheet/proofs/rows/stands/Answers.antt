@@ -1,15 +1,23 @@
-use native.Mathlib.Omega.{arith}
-use Rattle.sheet.proofs.StandLaws.{stands_sep, stands_place, stands_kept, stands_quote}
+use mathlib.Core.Path.{◌≡◌, sym, ap, ◌∙◌}
+use mathlib.Core.Bool.{true, false≢true, not}
+use lib.Dec.{eqb}
+use borrow.Author.Tests.{eq-eqb, ne_eqb}
+use Rattle.std.specs.Option.{is_none}
+use Rattle.sheet.proofs.FieldLaws.{has_any}
+use Rattle.sheet.proofs.rows.stands.Goals.{then-sep-eq-COMMA, else-sep-eq-COMMA, then-is_none, else-is_none}
 use Rattle.sheet.proofs.rows.stands.Goals as goal
 
-pub returns-then-sep-ne44 : goal.returns-then-sep-ne44
-returns-then-sep-ne44 c = let a = c.args in stands_sep a.sep a.row a.part.now c.if-sep-ne44.true
-
-pub returns-then-row-ne0 : goal.returns-then-row-ne0
-returns-then-row-ne0 c = let a = c.args in stands_place a.sep a.row a.part.now c.if-sep-ne44.false c.if-row-ne0.true
-
 pub returns-then-row : goal.returns-then-row
-returns-then-row c = let a = c.args in stands_kept a.sep a.row a.part.now c.if-sep-ne44.false c.if-row-ne0.false (λ e. omega (arith, c.if-row.true, e))
-
-pub returns : goal.returns
-returns c = let a = c.args in stands_quote a.sep a.row a.part.now c.if-sep-ne44.false c.if-row-ne0.false (omega (arith, c.if-row.false)) _ c.has_quote.ensures
+returns-then-row c =
+    elim c.if-is_none.branch [
+      | then-is_none w ↦
+          elim c.if-sep-eq-COMMA.branch [
+            | then-sep-eq-COMMA v ↦
+                let r : v.is_none.result ≡ true = sym v.value-is ∙ w.if-is_none.true in
+                let p : is_none c.args.row.place ≡ true = ap not (rw r at v.is_none.ensures) in
+                let k : eqb c.args.row.kept c.args.row.cells ≡ true = sym w.value-is ∙ c.if-row.true in
+                rw (eq-eqb c.args.sep 44 v.if-sep-eq-COMMA.true, p, k) (ap not (c.contains.ensures.value ∙ has_any 34 _))
+            | else-sep-eq-COMMA v ↦ absurd (false≢true (sym (ne_eqb c.args.sep 44 v.if-sep-eq-COMMA.false) ∙ sym v.value-is ∙ w.if-is_none.true))
+          ]
+      | else-is_none w ↦ absurd (false≢true (sym w.if-is_none.false ∙ sym w.value-is ∙ c.if-row.true))
+    ]
