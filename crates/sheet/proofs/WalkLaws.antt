@@ -52,6 +52,13 @@ module _ {sep : ℕ} {twice : Bool} {l : List ℕ} {at : ℕ} {c : Cell} (k : Ce
   unfolding cons_cell cells_after
   cell_next x q p = k.cells ∙ ap (λ m. cons_cell (in_cell twice l c) (cells_after sep m)) p
 
+-- what `content` asks of a cell
+abbrev pub InPart : List ℕ → Cell → Type 0
+InPart l c = record { ordered : c.from ≤ c.to; inside : c.to ≤ length l }
+
+pub in_part : {sep : ℕ} {twice : Bool} {l : List ℕ} {at : ℕ} {c : Cell} → CellAt sep twice l at c → InPart l c
+in_part k = record { ordered = k.ordered; inside = omega (arith, k.before, k.inside) }
+
 -- the byte at a place in a part that is read as it stands
 pub plain_rest : (l : List ℕ) (p : ℕ) → p < length l → seen false (drop p l) ≡ get_or l p 0 ∷ seen false (drop (p + 1) l)
 unfolding seen pick

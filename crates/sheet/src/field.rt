@@ -7,8 +7,8 @@ ghost use Rattle.sheet_table.specs.Table.{doubled, requote, plain_cell};
 ghost use Rattle.sheet.specs.Code.Seen.{singled, seen};
 ghost use Rattle.sheet.specs.Code.Cell.{content_of};
 
-use super::COMMA;
 use super::part::after_byte;
+use super::{COMMA, Content};
 use event_write::bytes::{put_byte, put_bytes};
 
 // The comma, which ends a field that has no quotes.
@@ -48,34 +48,27 @@ pub fn put_seen(out: &mut [u8], at: usize, raw: &[u8], twice: bool, double: bool
     next
 }
 
-// A cell's content in quotes; that of a quoted cell has its quotes in pairs.
-fn put_quoted(out: &mut [u8], at: usize, raw: &[u8], twice: bool, quoted: bool) -> usize
-    requires fact_1 { at < 2 ^ 39 }
-    requires fact_2 { length raw.now ≤ 268435456 }
-    requires fact_3 { (quoted ≡ true → doubled (singled (seen twice raw.now)) ≡ seen twice raw.now) }
-    ensures { Written out.old at (requote (content_of quoted (seen twice raw.now))) out.new result }
-{
-    let a = put_byte(out, at, b'"');
-    let b = put_seen(out, a, raw, twice, !quoted);
-    put_byte(out, b, b'"')
-}
-
-// A cell's content as a field: in quotes where it is the text, or would fall apart.
-pub fn put_cell(
-    out: &mut [u8],
-    at: usize,
-    raw: &[u8],
-    twice: bool,
-    quoted: bool,
-    text: bool,
-) -> usize
-    requires fact_1 { at < 2 ^ 39 }
-    requires fact_2 { length raw.now ≤ 268435456 }
-    requires fact_3 { (quoted ≡ true → doubled (singled (seen twice raw.now)) ≡ seen twice raw.now) }
-    ensures { Written out.old at (pick text (requote (content_of quoted (seen twice raw.now))) (plain_cell (content_of quoted (seen twice raw.now)))) out.new result }
-{
-    if text || needs_quotes(raw) {
-        return put_quoted(out, at, raw, twice, quoted);
+impl Content<'_> {
+    // In quotes; that of a quoted cell has its quotes in pairs.
+    fn put_quoted(self, out: &mut [u8], at: usize) -> usize
+        requires fact_1 { at < 2 ^ 39 }
+        requires fact_2 { (self.quoted ≡ true → doubled (singled (seen self.twice self.bytes.now)) ≡ seen self.twice self.bytes.now) }
+        ensures { Written out.old at (requote (content_of self.entry.quoted (seen self.entry.twice self.entry.bytes.now))) out.new result }
+    {
+        let a = put_byte(out, at, b'"');
+        let b = put_seen(out, a, self.bytes, self.twice, !self.quoted);
+        put_byte(out, b, b'"')
     }
-    put_bytes(out, at, raw)
+
+    // As a field: in quotes where it is the text, or would fall apart.
+    pub fn put(self, out: &mut [u8], at: usize, text: bool) -> usize
+        requires fact_1 { at < 2 ^ 39 }
+        requires fact_2 { (self.quoted ≡ true → doubled (singled (seen self.twice self.bytes.now)) ≡ seen self.twice self.bytes.now) }
+        ensures { Written out.old at (pick text (requote (content_of self.entry.quoted (seen self.entry.twice self.entry.bytes.now))) (plain_cell (content_of self.entry.quoted (seen self.entry.twice self.entry.bytes.now)))) out.new result }
+    {
+        if text || needs_quotes(self.bytes) {
+            return self.put_quoted(out, at);
+        }
+        put_bytes(out, at, self.bytes)
+    }
 }

@@ -8,6 +8,7 @@ ghost use Rattle.sheet.specs.Code.Seen.{seen};
 ghost use Rattle.sheet.specs.Code.Cell.{content_of};
 ghost use Rattle.sheet.specs.Code.Row.{place_as};
 
+use super::Content;
 use midicsv::word::same_name;
 use midicsv_scan::FieldAt;
 use midicsv_scan::field::field_at;
@@ -43,16 +44,18 @@ fn place_of_name(name: &[u8]) -> Option<usize>
     None
 }
 
-// The same of the third cell, whose bytes are a name as the reader reads names. A quote is in no name, so
-// it does not matter how the bytes are read.
-pub fn text_place(raw: &[u8], twice: bool, quoted: bool) -> Option<usize>
-    ensures { place_as result ≡ text_of_name (name_in (read_field (content_of quoted (seen twice raw.now)))) }
-{
-    let FieldAt::Name { start, end, next } = field_at(raw, 0)? else {
-        return None;
-    };
-    if next < raw.len() {
-        return None;
+impl Content<'_> {
+    // The same of the third cell, whose bytes are a name as the reader reads names. A quote is in no name, so
+    // it does not matter how the bytes are read.
+    pub fn text_place(self) -> Option<usize>
+        ensures { place_as result ≡ text_of_name (name_in (read_field (content_of self.entry.quoted (seen self.entry.twice self.entry.bytes.now)))) }
+    {
+        let FieldAt::Name { start, end, next } = field_at(self.bytes, 0)? else {
+            return None;
+        };
+        if next < self.bytes.len() {
+            return None;
+        }
+        place_of_name(&self.bytes[start..end])
     }
-    place_of_name(&raw[start..end])
 }

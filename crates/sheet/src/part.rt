@@ -1,13 +1,13 @@
-// The bytes of a part of a line. Where the part stands in quotes (`twice`), two quotes are one byte.
+// The bytes of a part of a line.
 ghost use Rattle.std.specs.Prelude.{◌≡◌, Bool, ◌<◌, ◌≤◌, length, drop};
 ghost use Rattle.std.specs.List.{list_all};
 ghost use Rattle.midicsv.specs.ReadField.{is_blank};
 ghost use Rattle.sheet_table.specs.Cut.{blank_beside};
 ghost use Rattle.sheet_table.specs.Table.{is_empty, is_remark};
-ghost use Rattle.sheet.specs.Code.Seen.{seen, Passed, SkippedTo};
+ghost use Rattle.sheet.specs.Code.Seen.{seen, slice, Passed, SkippedTo};
 ghost use Rattle.sheet.specs.Code.Cell.{content_of};
 
-use super::{SEMICOLON, TAB};
+use super::{Cell, Content, LinePart, SEMICOLON, TAB};
 use midicsv::byte::is_blank;
 use midicsv_scan::past;
 
@@ -15,11 +15,11 @@ use midicsv_scan::past;
 const SEPARATING: u8 = SEMICOLON;
 
 // The place after the byte at a place.
-pub fn after_byte(part: &[u8], at: usize, twice: bool) -> usize
-    requires { at < length part.now }
-    ensures { Passed twice part.now at result }
+pub fn after_byte(bytes: &[u8], at: usize, twice: bool) -> usize
+    requires { at < length bytes.now }
+    ensures { Passed twice bytes.now at result }
 {
-    if twice && part[at] == b'"' && at + 1 < part.len() {
+    if twice && bytes[at] == b'"' && at + 1 < bytes.len() {
         return at + 2;
     }
     at + 1
@@ -33,23 +33,41 @@ pub fn is_blank_beside(sep: u8, c: u8) -> bool
     c == b' ' || (c == TAB && sep != TAB)
 }
 
-// The place of the first byte from a place on that is no blank; no blank is a quote, so each is one byte.
-pub fn skip_beside(part: &[u8], at: usize, sep: u8) -> usize
-    requires { at ≤ length part.now }
-    ensures { SkippedTo sep part.now at result }
-{
-    past(part, at, |c| is_blank_beside(sep, c))
-}
-
-// Whether a line stands as it is: `#` comes first, or `;` where that does not separate.
-pub fn is_remark_line(part: &[u8], sep: u8, twice: bool) -> bool
-    ensures { result ≡ is_remark sep (seen twice part.now) }
-{
-    let p = skip_beside(part, 0, sep);
-    if part.len() <= p {
-        return false;
+impl<'a> LinePart<'a> {
+    // The place of the first byte from a place on that is no blank; no blank is a quote, so each is one byte.
+    pub fn skip_beside(self, at: usize) -> usize
+        requires { at ≤ length self.bytes.now }
+        ensures { SkippedTo self.entry.sep self.entry.bytes.now at result }
+    {
+        let sep = self.sep;
+        past(self.bytes, at, |c| is_blank_beside(sep, c))
     }
-    part[p] == b'#' || (part[p] == b';' && sep != SEPARATING)
+
+    // Whether a line stands as it is: `#` comes first, or `;` where that does not separate.
+    pub fn is_remark(self) -> bool
+        ensures { result ≡ is_remark self.entry.sep (seen self.entry.twice self.entry.bytes.now) }
+    {
+        let p = self.skip_beside(0);
+        if self.bytes.len() <= p {
+            return false;
+        }
+        self.bytes[p] == b'#' || (self.bytes[p] == b';' && self.sep != SEPARATING)
+    }
+
+    // What a cell of it holds.
+    pub fn content(self, cell: Cell) -> Content<'a>
+        requires ordered { cell.from ≤ cell.to }
+        requires inside { cell.to ≤ length self.bytes.now }
+        ensures bytes { result.bytes.now ≡ slice cell.from cell.to self.entry.bytes.now }
+        ensures twice { result.twice ≡ self.entry.twice }
+        ensures quoted { result.quoted ≡ cell.quoted }
+    {
+        Content {
+            bytes: &self.bytes[cell.from..cell.to],
+            twice: self.twice,
+            quoted: cell.quoted,
+        }
+    }
 }
 
 // Whether bytes are blanks alone.
@@ -59,9 +77,11 @@ fn are_blank(bytes: &[u8]) -> bool
     bytes.iter().all(|c| is_blank(*c))
 }
 
-// Whether a cell's bytes are blanks alone, however they are read.
-pub fn is_empty_cell(raw: &[u8], twice: bool, quoted: bool) -> bool
-    ensures { result ≡ is_empty (content_of quoted (seen twice raw.now)) }
-{
-    are_blank(raw)
+impl Content<'_> {
+    // Whether it is blanks alone, however its bytes are read.
+    pub fn is_empty(self) -> bool
+        ensures { result ≡ is_empty (content_of self.entry.quoted (seen self.entry.twice self.entry.bytes.now)) }
+    {
+        are_blank(self.bytes)
+    }
 }

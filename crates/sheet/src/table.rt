@@ -6,13 +6,11 @@ ghost use Rattle.sheet_table.specs.Table.{sep_in, sep_of, unmarked, table_lines,
 ghost use Rattle.sheet_table.specs.TableAnswer.{table_answer, table_leaves};
 
 use super::lines::put_line;
-use super::{COMMA, SEMICOLON, TAB};
+use super::{COMMA, SEMICOLON, TAB, TABLE_LIMIT};
 use event::refusal::Refusal;
 use event_write::bytes::put_byte;
 use midicsv_scan::frame::{line_at, passed_over, trim};
 use smf::Answer;
-
-const TABLE_LIMIT: usize = 268435456;
 
 const TEXT_LIMIT: usize = 33554432;
 

@@ -1,6 +1,0 @@
-use mathlib.Core.Path.{◌∙◌}
-use Rattle.sheet.proofs.BlankLaws.{all_blank}
-use Rattle.sheet.proofs.part.is_empty_cell.Goals as goal
-
-pub returns : goal.returns
-returns c = c.are_blank.ensures ∙ all_blank _ _ _
