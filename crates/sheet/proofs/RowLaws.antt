@@ -77,9 +77,6 @@ pub as_field : {old new : List ℕ} {at next : ℕ} (t : Bool) (place : Option �
 unfolding field_at
 as_field t place i c e w = rw e at w
 
-pub slice_few : (n a : ℕ) (l : List ℕ) → length (take n (drop a l)) ≤ length l
-slice_few n a l = simp (length-take, length-drop) (omega arith)
-
 -- ---- the loop
 
 -- what is to be written before the field numbered i: the fields, a comma before each but the first of all
