@@ -42,6 +42,18 @@ needy_other : (x : ℕ) (l : List ℕ) → eqb x 44 ≡ false → eqb x 34 ≡ f
 unfolding has
 needy_other x l n m = rw (n, m) refl
 
+or_four : (a b c d : Bool) → ((a || b) || (c || d)) ≡ ((a || c) || (b || d))
+or_four true true c d = refl
+or_four true false c d = refl
+or_four false true true d = refl
+or_four false true false d = refl
+or_four false false c d = refl
+
+pub any_needy : (l : List ℕ) → list_any (λ c. eqb c 44 || eqb c 34) l ≡ Needy l
+unfolding has
+any_needy [] = refl
+any_needy (c ∷ l) = rw (any_needy l) (or_four (eqb c 44) (eqb c 34) (has 44 l) (has 34 l))
+
 -- what `contains` answers
 pub has_any : (c : ℕ) (l : List ℕ) → list_any (λ x. eqb x c) l ≡ has c l
 unfolding has

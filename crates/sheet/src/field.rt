@@ -1,5 +1,6 @@
 // A cell written as a field of a text. Each writes only where there is room and answers the place after.
-ghost use Rattle.std.specs.Prelude.{◌≡◌, true, ◌||◌, [], ◌∷◌, ◌<◌, ◌≤◌, ◌^◌, length};
+ghost use Rattle.std.specs.Prelude.{◌≡◌, true, ◌||◌, [], ◌∷◌, ◌<◌, ◌≤◌, ◌^◌, eqb, length};
+ghost use Rattle.std.specs.List.{list_any};
 ghost use Rattle.event.specs.Choice.{pick};
 ghost use Rattle.event_write.specs.Written.{Written};
 ghost use Rattle.sheet_table.specs.Cut.{has};
@@ -16,9 +17,9 @@ const FIELD_END: u8 = COMMA;
 
 // Whether a comma or a quote is among the bytes.
 fn needs_quotes(raw: &[u8]) -> bool
-    ensures { result ≡ (has 44 raw.now || has 34 raw.now) }
+    ensures { result ≡ list_any (λ c. eqb c 44 || eqb c 34) raw.now }
 {
-    raw.contains(&FIELD_END) || raw.contains(&b'"')
+    raw.iter().any(|c| *c == FIELD_END || *c == b'"')
 }
 
 // A byte, a quote twice where that is asked.
