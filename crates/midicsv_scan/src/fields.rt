@@ -21,6 +21,7 @@ pub fn count_fields(line: &[u8]) -> Option<usize>
 {
     let mut at = 0;
     let mut n = 0;
+    // each field tells where the next begins, and the first bad one ends it: no iterator is plainer
     loop {
         let next = field_end(line, at)?;
         n += 1;

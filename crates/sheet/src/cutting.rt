@@ -12,6 +12,7 @@ fn quote_end(bytes: &[u8], at: usize, twice: bool) -> usize
     ensures { QuoteEnd twice bytes.now at result }
 {
     let mut p = at;
+    // a place goes on by one byte or by two, so no iterator over bytes is plainer
     while p < bytes.len() {
         let next = after_byte(bytes, p, twice);
         if bytes[p] != b'"' {
@@ -33,6 +34,7 @@ impl LinePart<'_> {
         ensures { BareEnd self.entry.sep self.entry.twice self.entry.bytes.now at result }
     {
         let mut p = at;
+        // by one byte or by two
         while p < self.bytes.len() {
             if self.bytes[p] == self.sep {
                 return p;
@@ -86,7 +88,9 @@ impl LinePart<'_> {
         })
     }
 
-    // The cell from a place on, where it can be cut: its quotes are closed, and no bytes follow them.
+    // The cell from a place on, where it can be cut: its quotes are closed, and no bytes follow them. It stands
+    // in the loops over cells, where a call for each would cost a tenth of their time.
+    #[inline(always)]
     pub fn cell_at(self, at: usize) -> Option<Cell>
         requires { at ≤ length self.bytes.now }
         ensures { CellIs self.entry.sep self.entry.twice self.entry.bytes.now at result }

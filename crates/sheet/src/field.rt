@@ -42,6 +42,7 @@ pub fn put_seen(out: &mut [u8], at: usize, raw: &[u8], twice: bool, double: bool
 {
     let mut next = at;
     let mut p = 0;
+    // a place goes on by one byte or by two, so no iterator over bytes is plainer
     while p < raw.len() {
         next = put_one(out, next, raw[p], double);
         p = after_byte(raw, p, twice);

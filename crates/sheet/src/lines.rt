@@ -15,6 +15,7 @@ fn are_empty(line: LinePart, from: usize) -> bool
     ensures { result ≡ all_empty_in (cut line.entry.sep (drop from line.entry.bytes.now)) }
 {
     let mut at = from;
+    // each cell tells where the next begins, and the first that cannot be cut ends it: no iterator is plainer
     loop {
         let Some(cell) = line.cell_at(at) else {
             return false;

@@ -81,6 +81,7 @@ impl LinePart<'_> {
             place: None,
         };
         let mut at = 0;
+        // each cell tells where the next begins, and the first that cannot be cut ends it: no iterator is plainer
         loop {
             let cell = self.cell_at(at)?;
             row = row.with_cell(self.content(cell));

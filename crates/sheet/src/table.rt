@@ -42,6 +42,7 @@ fn separator(table: &[u8]) -> u8
     ensures { result ≡ sep_of (lines_of table.now) }
 {
     let mut at = 0;
+    // each line tells where the next begins, so no iterator over bytes is plainer
     while at < table.len() {
         let cut = line_at(table, at);
         let line = trim(&table[at..cut.end]);
@@ -61,6 +62,7 @@ fn put_lines(out: &mut [u8], table: &[u8], sep: u8) -> usize
 {
     let mut next = 0;
     let mut at = 0;
+    // each line tells where the next begins
     while at < table.len() {
         let cut = line_at(table, at);
         next = put_line(out, next, trim(&table[at..cut.end]), sep);
