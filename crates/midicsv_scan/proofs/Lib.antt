@@ -1,4 +1,5 @@
 pub mod UnquotedLaws
+pub mod RunLaws
 mod NumberLaws
 mod TextLaws
 mod EndLaws

@@ -1,14 +1,15 @@
 -- Blanks passed over, lines that stand as they are, and empty cells.
 use mathlib.Core.Path.{◌≡◌, refl, sym, ap, ◌∙◌}
-use Prim.Native.Nat.{ℕ, suc, ◌+◌, ◌<◌, ◌≤◌}
+use Prim.Native.Nat.{ℕ, ◌+◌, ◌<◌, ◌≤◌}
 use mathlib.Core.Bool.{Bool, true, false, false≢true, ◌&&◌, ◌||◌, not}
 use mathlib.Core.List.{List, [], ◌∷◌}
 use native.Mathlib.Omega.{arith}
-use native.Mathlib.Numerals.{add-one}
-use lib.ListN.{length, drop, get_or, drop_of_length-le}
-use lib.Seq.{drop-cons}
+use lib.ListN.{length, drop, get_or}
 use lib.Dec.{eqb}
-use borrow.Author.Tests.{eq-eqb, ne_eqb, eqb-true}
+use borrow.Author.Tests.{eqb-true}
+use Rattle.std.proofs.Common.{one-add}
+use Rattle.std.specs.List.{prefix_len, list_all}
+use Rattle.midicsv_scan.proofs.RunLaws.{run_inside, run_rest}
 use Rattle.event.proofs.ChoiceLaws.{by_test, pick_true, pick_false}
 use Rattle.midicsv.specs.ReadField.{is_blank, skip}
 use Rattle.sheet_table.specs.Cut.{blank_beside, skip_beside, begins, is_none}
@@ -19,31 +20,10 @@ use Rattle.sheet.proofs.SeenLaws.{seen_first, seen_at, seen_other, seen_none, se
 
 -- ---- blanks beside the separator
 
-pub blank_space : (sep c : ℕ) → c ≡ 32 → true ≡ blank_beside sep c
-unfolding blank_beside
-blank_space sep c e = rw e refl
-
-pub blank_not : (sep c : ℕ) → (c ≡ 32 → ⊥) → (c ≡ 9 → ⊥) → false ≡ blank_beside sep c
-unfolding blank_beside
-blank_not sep c n m = rw (ne_eqb c 32 n, ne_eqb c 9 m) refl
-
-pub blank_tab : (sep c : ℕ) → (c ≡ 32 → ⊥) → c ≡ 9 → not (eqb sep 9) ≡ blank_beside sep c
-unfolding blank_beside
-blank_tab sep c n e = rw (ne_eqb c 32 n, eq-eqb c 9 e) refl
-
 -- a blank is no quote
 pub blank_quote : (sep x : ℕ) → blank_beside sep x ≡ true → eqb x 34 ≡ false
 unfolding blank_beside
 blank_quote sep x h = by_test (eqb x 34) (λ e. let z : blank_beside sep 34 ≡ true = rw (eqb-true x 34 e) at h in absurd (false≢true z)) (λ e. e)
-
--- what is skipped from at on is what is skipped from p on
-pub record Skipping (sep : ℕ) (l : List ℕ) (at p : ℕ) : Type 0 where
-  pub same : (twice : Bool) → skip_beside sep (seen twice (drop at l)) ≡ skip_beside sep (seen twice (drop p l))
-  pub later : at ≤ p
-  pub inside : p ≤ length l
-
-pub skipping_first : (sep : ℕ) (l : List ℕ) (at : ℕ) → at ≤ length l → Skipping sep l at at
-skipping_first sep l at h = record { same = λ twice. refl; later = omega arith; inside = h }
 
 skip_blank : (sep x : ℕ) (l : List ℕ) → blank_beside sep x ≡ true → skip_beside sep (x ∷ l) ≡ skip_beside sep l
 unfolding skip_beside
@@ -57,36 +37,20 @@ skip_none : (sep : ℕ) → skip_beside sep [] ≡ []
 unfolding skip_beside
 skip_none sep = refl
 
-module _ {sep : ℕ} {l : List ℕ} {at p : ℕ} (g : Skipping sep l at p) where
-  pub skipping_on : p < length l → blank_beside sep (get_or l p 0) ≡ true → Skipping sep l at (p + 1)
-  skipping_on h t =
-      let k = g.later in
-      record {
-        same = λ twice.
-            g.same twice
-            ∙ ap (λ z. skip_beside sep (seen twice z)) (drop-cons l p 0 h)
-            ∙ ap (skip_beside sep) (seen_other twice (get_or l p 0) (drop (suc p) l) (blank_quote sep (get_or l p 0) t))
-            ∙ skip_blank sep (get_or l p 0) (seen twice (drop (suc p) l)) t
-            ∙ rw (add-one p) refl;
-        later = omega arith;
-        inside = omega arith;
-      }
+skip_front : (sep : ℕ) (twice : Bool) (l : List ℕ) → skip_beside sep (seen twice l) ≡ seen twice (drop (prefix_len (blank_beside sep) l) l)
+skip_front sep twice [] = ap (skip_beside sep) (seen_none twice) ∙ skip_none sep ∙ sym (seen_none twice)
+skip_front sep twice (c ∷ l) =
+    by_test (blank_beside sep c)
+    (λ t. rw (t, one-add) (ap (skip_beside sep) (seen_other twice c l (blank_quote sep c t)) ∙ skip_blank sep c (seen twice l) t ∙ skip_front sep twice l))
+    (λ t. let (m, e) = seen_first twice c l in rw t (ap (skip_beside sep) e ∙ skip_other sep c m t ∙ sym e))
 
-  pub skipping_stop : p < length l → blank_beside sep (get_or l p 0) ≡ false → SkippedTo sep l at p
-  skipping_stop h t = record {
-    rest = λ twice.
-        let (m, e) = seen_at twice l p h in
-        g.same twice ∙ ap (skip_beside sep) e ∙ skip_other sep (get_or l p 0) m t ∙ sym e;
-    later = g.later;
-    inside = g.inside;
-  }
-
-  pub skipping_end : length l ≤ p → SkippedTo sep l at p
-  skipping_end h = record {
-    rest = λ twice. g.same twice ∙ ap (skip_beside sep) (seen_past twice l p h) ∙ skip_none sep ∙ sym (seen_past twice l p h);
-    later = g.later;
-    inside = g.inside;
-  }
+pub skipped_to : (sep : ℕ) (l : List ℕ) (at p : ℕ) → at ≤ length l → p ≡ at + prefix_len (blank_beside sep) (drop at l) → SkippedTo sep l at p
+skipped_to sep l at p h e =
+    record {
+      rest = λ twice. skip_front sep twice (drop at l) ∙ ap (seen twice) (run_rest (blank_beside sep) l at p e);
+      later = omega arith;
+      inside = run_inside (blank_beside sep) l at p e h;
+    }
 
 -- ---- lines that stand as they are, by their first byte that is no blank
 
@@ -99,19 +63,10 @@ unfolding is_remark begins
 remark_none sep twice l p k h = let e : skip_beside sep (seen twice l) ≡ [] = k.rest twice ∙ seen_past twice l p h in rw e refl
 
 module _ (sep : ℕ) (twice : Bool) (l : List ℕ) (p : ℕ) (k : SkippedTo sep l 0 p) (h : p < length l) where
-  remark_first : is_remark sep (seen twice l) ≡ (eqb (get_or l p 0) 35 || (eqb (get_or l p 0) 59 && not (eqb sep 59)))
+  pub remark_first : is_remark sep (seen twice l) ≡ (eqb (get_or l p 0) 35 || (eqb (get_or l p 0) 59 && not (eqb sep 59)))
   remark_first =
       let (m, e) = seen_at twice l p h in
       remark_by sep (get_or l p 0) (seen twice l) m (k.rest twice ∙ e)
-
-  pub remark_hash : get_or l p 0 ≡ 35 → true ≡ is_remark sep (seen twice l)
-  remark_hash e = sym (remark_first ∙ rw e refl)
-
-  pub remark_not : (get_or l p 0 ≡ 35 → ⊥) → (get_or l p 0 ≡ 59 → ⊥) → false ≡ is_remark sep (seen twice l)
-  remark_not n m = sym (remark_first ∙ rw (ne_eqb (get_or l p 0) 35 n, ne_eqb (get_or l p 0) 59 m) refl)
-
-  pub remark_semicolon : get_or l p 0 ≡ 59 → not (eqb sep 59) ≡ is_remark sep (seen twice l)
-  remark_semicolon e = sym (remark_first ∙ rw e refl)
 
 -- ---- empty cells
 
@@ -150,16 +105,7 @@ empty_none twice quoted =
     let g : content_of quoted (seen twice []) ≡ [] = ap (content_of quoted) (seen_none twice) ∙ content_seen quoted [] ∙ seen_none quoted in
     ap is_empty g
 
--- the answer on the whole is the answer on what is left
-abbrev pub Emptying : Bool → Bool → List ℕ → ℕ → Type 0
-Emptying twice quoted l p = EmptyAs twice quoted l ≡ EmptyAs twice quoted (drop p l)
-
-pub emptying_on : (twice quoted : Bool) (l : List ℕ) (p : ℕ) → Emptying twice quoted l p → p < length l → is_blank (get_or l p 0) ≡ true → Emptying twice quoted l (p + 1)
-emptying_on twice quoted l p g h t =
-    g ∙ ap (EmptyAs twice quoted) (drop-cons l p 0 h) ∙ empty_blank twice quoted (get_or l p 0) (drop (suc p) l) t ∙ rw (add-one p) refl
-
-pub emptying_stop : (twice quoted : Bool) (l : List ℕ) (p : ℕ) → Emptying twice quoted l p → p < length l → is_blank (get_or l p 0) ≡ false → false ≡ EmptyAs twice quoted l
-emptying_stop twice quoted l p g h t = sym (g ∙ ap (EmptyAs twice quoted) (drop-cons l p 0 h) ∙ empty_other twice quoted (get_or l p 0) (drop (suc p) l) t)
-
-pub emptying_end : (twice quoted : Bool) (l : List ℕ) (p : ℕ) → Emptying twice quoted l p → length l ≤ p → true ≡ EmptyAs twice quoted l
-emptying_end twice quoted l p g h = sym (g ∙ ap (EmptyAs twice quoted) (drop_of_length-le l h) ∙ empty_none twice quoted)
+pub all_blank : (twice quoted : Bool) (l : List ℕ) → list_all is_blank l ≡ EmptyAs twice quoted l
+all_blank twice quoted [] = sym (empty_none twice quoted)
+all_blank twice quoted (c ∷ l) =
+    by_test (is_blank c) (λ t. rw t (all_blank twice quoted l ∙ sym (empty_blank twice quoted c l t))) (λ t. rw t (sym (empty_other twice quoted c l t)))

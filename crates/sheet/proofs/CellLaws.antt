@@ -1,12 +1,10 @@
 -- Where a cell stands in a part: the loops to its end, and the cell they find.
 use mathlib.Core.Path.{◌≡◌, refl, sym, ap, ◌∙◌}
-use Prim.Native.Nat.{ℕ, suc, ◌+◌, ◌<◌, ◌≤◌}
-use mathlib.Core.Bool.{Bool, true, false, false≢true, not}
+use Prim.Native.Nat.{ℕ, ◌+◌, ◌<◌, ◌≤◌}
+use mathlib.Core.Bool.{Bool, true, false, false≢true, ◌&&◌, not}
 use mathlib.Core.List.{List, [], ◌∷◌, ◌++◌, append_assoc}
 use native.Mathlib.Omega.{arith}
-use native.Mathlib.Numerals.{add-one}
 use lib.ListN.{length, drop, get_or}
-use lib.Seq.{drop-cons}
 use lib.Dec.{eqb, ltb}
 use borrow.Author.Tests.{ne_eqb, not-true, ltb-true, ltb-false}
 use Rattle.event.proofs.ChoiceLaws.{by_test, and_both}
@@ -15,7 +13,9 @@ use Rattle.sheet_table.specs.Cut.{has, blank_beside, skip_beside, begins, bare, 
 use Rattle.sheet.specs.Code.Seen.{singled, seen, slice, Passed, Reached, SkippedTo}
 use Rattle.sheet_table.specs.Code.Cells.{cells_after}
 use Rattle.sheet.specs.Code.Cell.{content_of, CellIs, BareEnd, closes, QuoteEnd, ClosedTo, QuotedIs, BareIs}
-use Rattle.sheet.specs.declared.CellStep.TheVariants.{Found, Open}
+use Rattle.std.proofs.Common.{Some, None, one-add}
+use Rattle.std.specs.List.{prefix_len}
+use Rattle.midicsv_scan.proofs.RunLaws.{run_inside, run_rest, run_stops}
 use Rattle.sheet.proofs.SeenLaws.{seen_at, seen_other, seen_past, reached_first, reached_on, grown}
 use Rattle.sheet.proofs.BlankLaws.{blank_quote}
 use Rattle.sheet_table.proofs.CutLaws.{Follows, bare_cut}
@@ -89,37 +89,30 @@ quoted_end g k = record { reached = g.reached; paired = g.paired; closing = λ i
 
 -- ---- after the closing quote
 
-pub record Closing (sep : ℕ) (l : List ℕ) (at p : ℕ) : Type 0 where
-  pub same : (twice : Bool) → cut_from sep (seen twice (drop at l)) closed ≡ cut_from sep (seen twice (drop p l)) closed
-  pub later : at ≤ p
-  pub inside : p ≤ length l
+-- a byte after which the cell is not yet closed: a blank that does not separate
+abbrev pub closing : ℕ → ℕ → Bool
+closing sep c = not (eqb c sep) && blank_beside sep c
 
-pub closing_first : (sep : ℕ) (l : List ℕ) (at : ℕ) → at ≤ length l → Closing sep l at at
-closing_first sep l at h = record { same = λ twice. refl; later = omega arith; inside = h }
+closing_front : (sep : ℕ) (twice : Bool) (l : List ℕ) → cut_from sep (seen twice l) closed ≡ cut_from sep (seen twice (drop (prefix_len (closing sep) l) l)) closed
+closing_front sep twice [] = refl
+closing_front sep twice (c ∷ l) =
+    by_test (eqb c sep)
+    (λ n. rw n)
+    (λ n.
+    by_test (blank_beside sep c)
+    (λ t.
+    rw (n, t, one-add)
+    (ap (λ z. cut_from sep z closed) (seen_other twice c l (blank_quote sep c t)) ∙ closed_blank sep c (seen twice l) n t ∙ closing_front sep twice l))
+    (λ t. rw (n, t)))
 
-module _ {sep : ℕ} {l : List ℕ} {at p : ℕ} (g : Closing sep l at p) where
-  pub closing_on : p < length l → (get_or l p 0 ≡ sep → ⊥) → blank_beside sep (get_or l p 0) ≡ true → Closing sep l at (p + 1)
-  closing_on h n t =
-      let k = g.later in
-      record {
-        same = λ twice.
-            g.same twice
-            ∙ ap (λ z. cut_from sep (seen twice z) closed) (drop-cons l p 0 h)
-            ∙ ap (λ z. cut_from sep z closed) (seen_other twice (get_or l p 0) (drop (suc p) l) (blank_quote sep (get_or l p 0) t))
-            ∙ closed_blank sep (get_or l p 0) (seen twice (drop (suc p) l)) (ne_eqb (get_or l p 0) sep n) t
-            ∙ rw (add-one p) refl;
-        later = omega arith;
-        inside = omega arith;
-      }
-
-  pub closing_sep : get_or l p 0 ≡ sep → ClosedTo sep l at p
-  closing_sep e = record { same = g.same; stops = λ h n. absurd (n e); later = g.later; inside = g.inside }
-
-  pub closing_other : blank_beside sep (get_or l p 0) ≡ false → ClosedTo sep l at p
-  closing_other t = record { same = g.same; stops = λ h n. t; later = g.later; inside = g.inside }
-
-  pub closing_end : length l ≤ p → ClosedTo sep l at p
-  closing_end k = record { same = g.same; stops = λ h n. absurd (omega arith); later = g.later; inside = g.inside }
+pub closed_to : (sep : ℕ) (l : List ℕ) (at p : ℕ) → at ≤ length l → p ≡ at + prefix_len (closing sep) (drop at l) → ClosedTo sep l at p
+closed_to sep l at p h e =
+    record {
+      same = λ twice. closing_front sep twice (drop at l) ∙ ap (λ z. cut_from sep (seen twice z) closed) (run_rest (closing sep) l at p e);
+      stops = λ i n. let t = run_stops (closing sep) l at p e i in rw (ne_eqb (get_or l p 0) sep n) at t;
+      later = omega arith;
+      inside = run_inside (closing sep) l at p e h;
+    }
 
 -- ---- the cell
 
@@ -130,7 +123,7 @@ quoted_content sep twice l at to t q e =
     let r = seen twice (slice at to l) in
     ap (λ z. cut_from sep z quotes) (q.reached.rest ∙ ap (λ z. r ++ z) e ∙ ap (λ z. z ++ t) (sym q.paired)) ∙ quotes_cut sep (singled r) t
 
-pub quoted_unclosed : (sep : ℕ) (twice : Bool) (l : List ℕ) (at to : ℕ) → QuoteEnd twice l at to → length l ≤ to → QuotedIs sep twice l at Open
+pub quoted_unclosed : (sep : ℕ) (twice : Bool) (l : List ℕ) (at to : ℕ) → QuoteEnd twice l at to → length l ≤ to → QuotedIs sep twice l at None
 unfolding QuotedIs CellIs cut_from
 quoted_unclosed sep twice l at to q k =
     λ a h o. o ∙ quoted_content sep twice l at to [] q (seen_past twice l to k) ∙ cells_bad (singled (seen twice (slice at to l))) 22
@@ -144,7 +137,7 @@ module _ (sep : ℕ) (twice : Bool) (l : List ℕ) (at to n next : ℕ) (q : Quo
       quoted_content sep twice l at to (get_or l to 0 ∷ seen twice (drop n l)) q p.rest
       ∙ ap (on_cells (singled (seen twice (slice at to l)))) (closing_cut sep (get_or l to 0) (seen twice (drop n l)) x (not-true _ y) ∙ k.same twice)
 
-  found : (next < length l → get_or l next 0 ≡ sep) → QuotedIs sep twice l at (Found (record { from = at; to = to; quoted = true; next = next }))
+  found : (next < length l → get_or l next 0 ≡ sep) → QuotedIs sep twice l at (Some (record { from = at; to = to; quoted = true; next = next }))
   unfolding QuotedIs CellIs content_of pick
   found g = λ a i o. record {
     cells =
@@ -158,13 +151,13 @@ module _ (sep : ℕ) (twice : Bool) (l : List ℕ) (at to n next : ℕ) (q : Quo
     inside = k.inside;
   }
 
-  pub quoted_end_found : length l ≤ next → QuotedIs sep twice l at (Found (record { from = at; to = to; quoted = true; next = next }))
+  pub quoted_end_found : length l ≤ next → QuotedIs sep twice l at (Some (record { from = at; to = to; quoted = true; next = next }))
   quoted_end_found e = found (λ i. absurd (omega arith))
 
-  pub quoted_sep_found : get_or l next 0 ≡ sep → QuotedIs sep twice l at (Found (record { from = at; to = to; quoted = true; next = next }))
+  pub quoted_sep_found : get_or l next 0 ≡ sep → QuotedIs sep twice l at (Some (record { from = at; to = to; quoted = true; next = next }))
   quoted_sep_found s = found (λ i. s)
 
-  pub quoted_other : next < length l → (get_or l next 0 ≡ sep → ⊥) → QuotedIs sep twice l at Open
+  pub quoted_other : next < length l → (get_or l next 0 ≡ sep → ⊥) → QuotedIs sep twice l at None
   unfolding QuotedIs CellIs
   quoted_other e s =
       let (m, t) = seen_at twice l next e in
@@ -173,7 +166,7 @@ module _ (sep : ℕ) (twice : Bool) (l : List ℕ) (at to n next : ℕ) (q : Quo
       ∙ ap (on_cells (singled (seen twice (slice at to l)))) (closed_other sep (get_or l next 0) m (ne_eqb (get_or l next 0) sep s) (k.stops e s))
       ∙ cells_bad (singled (seen twice (slice at to l))) 22
 
-pub bare_found : (sep : ℕ) (twice : Bool) (l : List ℕ) (at to : ℕ) → BareEnd sep twice l at to → BareIs sep twice l at (Found (record { from = at; to = to; quoted = false; next = to }))
+pub bare_found : (sep : ℕ) (twice : Bool) (l : List ℕ) (at to : ℕ) → BareEnd sep twice l at to → BareIs sep twice l at (Some (record { from = at; to = to; quoted = false; next = to }))
 unfolding BareIs CellIs content_of pick
 bare_found sep twice l at to b = λ o. record {
   cells =

@@ -1,14 +1,13 @@
 -- A cell's content as a field: what is left to write, and how it is in quotes.
 use mathlib.Core.Path.{◌≡◌, refl, sym, ap, subst, ◌∙◌}
-use Prim.Native.Nat.{ℕ, suc, ◌+◌, ◌*◌, ◌<◌, ◌≤◌}
+use Prim.Native.Nat.{ℕ, ◌*◌, ◌≤◌}
 use mathlib.Core.Bool.{Bool, true, false, ◌||◌, not}
 use mathlib.Core.List.{List, [], ◌∷◌, ◌++◌}
 use native.Mathlib.Omega.{arith}
-use native.Mathlib.Numerals.{add-one}
-use lib.ListN.{length, drop, get_or, drop_of_length-le}
-use lib.Seq.{drop-cons}
+use lib.ListN.{length, drop, get_or}
 use lib.Dec.{eqb}
 use borrow.Author.Tests.{ne_eqb, eqb-true}
+use Rattle.std.specs.List.{list_any}
 use Rattle.event.specs.Choice.{pick}
 use Rattle.event.proofs.ChoiceLaws.{by_test, pick_true, pick_false}
 use Rattle.event_write.specs.Written.{Written}
@@ -43,27 +42,23 @@ needy_other : (x : ℕ) (l : List ℕ) → eqb x 44 ≡ false → eqb x 34 ≡ f
 unfolding has
 needy_other x l n m = rw (n, m) refl
 
-needy_none : Needy [] ≡ false
+or_four : (a b c d : Bool) → ((a || b) || (c || d)) ≡ ((a || c) || (b || d))
+or_four true true c d = refl
+or_four true false c d = refl
+or_four false true true d = refl
+or_four false true false d = refl
+or_four false false c d = refl
+
+pub any_needy : (l : List ℕ) → list_any (λ c. eqb c 44 || eqb c 34) l ≡ Needy l
 unfolding has
-needy_none = refl
+any_needy [] = refl
+any_needy (c ∷ l) = rw (any_needy l) (or_four (eqb c 44) (eqb c 34) (has 44 l) (has 34 l))
 
--- the answer on the whole is the answer on what is left
-abbrev pub Needing : List ℕ → ℕ → Type 0
-Needing l p = Needy l ≡ Needy (drop p l)
-
-module _ (l : List ℕ) (p : ℕ) (g : Needing l p) where
-  pub needing_comma : p < length l → get_or l p 0 ≡ 44 → true ≡ Needy l
-  needing_comma h e = sym (g ∙ ap Needy (drop-cons l p 0 h) ∙ needy_comma (get_or l p 0) (drop (suc p) l) e)
-
-  pub needing_quote : p < length l → get_or l p 0 ≡ 34 → true ≡ Needy l
-  needing_quote h e = sym (g ∙ ap Needy (drop-cons l p 0 h) ∙ needy_quote (get_or l p 0) (drop (suc p) l) e)
-
-  pub needing_on : p < length l → (get_or l p 0 ≡ 44 → ⊥) → (get_or l p 0 ≡ 34 → ⊥) → Needing l (p + 1)
-  needing_on h n m =
-      g ∙ ap Needy (drop-cons l p 0 h) ∙ needy_other (get_or l p 0) (drop (suc p) l) (ne_eqb (get_or l p 0) 44 n) (ne_eqb (get_or l p 0) 34 m) ∙ rw (add-one p) refl
-
-  pub needing_end : length l ≤ p → false ≡ Needy l
-  needing_end h = sym (g ∙ ap Needy (drop_of_length-le l h) ∙ needy_none)
+-- what `contains` answers
+pub has_any : (c : ℕ) (l : List ℕ) → list_any (λ x. eqb x c) l ≡ has c l
+unfolding has
+has_any c [] = refl
+has_any c (x ∷ l) = rw (has_any c l)
 
 -- ---- the bytes that are left to write, each quote twice where that is asked
 

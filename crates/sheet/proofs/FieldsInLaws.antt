@@ -1,14 +1,15 @@
 -- The fields of a row, taken one by one, are its line.
 use mathlib.Core.Path.{◌≡◌, refl, sym, ap, ap₂, ◌∙◌}
 use Prim.Native.Nat.{ℕ, zero, suc, max, ◌+◌, ◌<◌, ◌≤◌}
-use mathlib.Core.Bool.{true, false, and-false}
+use mathlib.Core.Bool.{true, false}
 use mathlib.Core.List.{List, [], ◌∷◌, ◌++◌}
 use native.Mathlib.Omega.{arith}
 use lib.ListN.{length, length-append}
 use lib.Dec.{ltb, eqb}
 use borrow.Author.Tests.{eq-eqb, ne_eqb, lt-ltb, le-ltb, ltb-true, ltb-false}
+use Rattle.std.proofs.Common.{Option, Some, None}
 use Rattle.event.specs.Choice.{pick}
-use Rattle.event.proofs.ChoiceLaws.{pick_true, pick_false, by_test}
+use Rattle.event.proofs.ChoiceLaws.{by_test}
 use Rattle.midicsv.specs.ReadField.{read_field}
 use Rattle.sheet_table.specs.Table.{is_empty, keep_before, drop_empty, plain_cell, plain_cells, fields_to, name_in, text_of_name, text_at, row_fields}
 use Rattle.sheet.specs.Code.Row.{place_as, field_at, fields_in, field_count, Looked}
@@ -25,14 +26,10 @@ kept_cons c (x ∷ d) m = omega arith
 
 -- ---- rows and parts of rows without a text
 
-module _ (place : ℕ) where
+module _ (place : Option ℕ) where
   -- from the cell numbered i on no field is the text
   abbrev PlainFrom : ℕ → Type 0
   PlainFrom i = (j : ℕ) (c : List ℕ) → i ≤ j → field_at place j c ≡ plain_cell c
-
-  plain_past : (i : ℕ) → place < i → PlainFrom i
-  unfolding field_at pick
-  plain_past i h j c g = rw (ne_eqb j place (omega arith))
 
   keep_fields : (i : ℕ) (c : List ℕ) (cs d : List (List ℕ)) → PlainFrom i → fields_in (length d) place (suc i) cs ≡ plain_cells d
       → fields_in (length (keep_before c d)) place i (c ∷ cs) ≡ plain_cells (keep_before c d)
@@ -44,6 +41,14 @@ module _ (place : ℕ) where
   unfolding fields_in drop_empty plain_cells
   plain_fields i [] h = refl
   plain_fields i (c ∷ cs) h = keep_fields i c cs (drop_empty cs) h (plain_fields (suc i) cs (λ j x g. h j x (omega arith)))
+
+plain_none : PlainFrom None 0
+unfolding field_at pick
+plain_none j c g = refl
+
+plain_past : (place i : ℕ) → place < i → PlainFrom (Some place) i
+unfolding field_at pick
+plain_past place i h j c g = rw (ne_eqb place j (omega arith))
 
 -- ---- rows with a text after k more cells
 
@@ -58,22 +63,22 @@ count_cons k c cs =
     (λ e. let h = ltb-true (length cs) k e in rw (e, lt-ltb (suc (length cs)) (suc k) (omega arith)))
     (λ e. let h = ltb-false (length cs) k e in rw (e, le-ltb (suc (length cs)) (suc k) (omega arith), kept_cons c (drop_empty cs) (suc k)))
 
-fields_to_lem : (place k i : ℕ) (cs : List (List ℕ)) → place ≡ i + k → 0 < place → fields_to k cs ≡ fields_in (count_to k cs) place i cs
+fields_to_lem : (place k i : ℕ) (cs : List (List ℕ)) → place ≡ i + k → fields_to k cs ≡ fields_in (count_to k cs) (Some place) i cs
 unfolding fields_to fields_in field_at pick drop_empty
-fields_to_lem place zero i [] p z = rw (eq-eqb i place (omega arith), ne_eqb place 0 (omega arith))
-fields_to_lem place zero i (c ∷ cs) p z =
+fields_to_lem place zero i [] p = rw (eq-eqb place i (omega arith))
+fields_to_lem place zero i (c ∷ cs) p =
     let none : ltb (suc (length cs)) 0 ≡ false = le-ltb (suc (length cs)) 0 (omega arith) in
     let count : count_to 0 (c ∷ cs) ≡ suc (length (drop_empty cs)) = rw (none, kept_cons c (drop_empty cs) 0) (omega arith) in
-    rw (count, eq-eqb i place (omega arith), ne_eqb place 0 (omega arith), plain_fields place (suc i) cs (plain_past place (suc i) (omega arith)))
-fields_to_lem place (suc k) i [] p z = rw (lt-ltb 0 (suc k) (omega arith))
-fields_to_lem place (suc k) i (c ∷ cs) p z = rw (count_cons k c cs, ne_eqb i place (omega arith), fields_to_lem place k (suc i) cs (omega arith) z)
+    rw (count, eq-eqb place i (omega arith), plain_fields (Some place) (suc i) cs (plain_past place (suc i) (omega arith)))
+fields_to_lem place (suc k) i [] p = rw (lt-ltb 0 (suc k) (omega arith))
+fields_to_lem place (suc k) i (c ∷ cs) p = rw (count_cons k c cs, ne_eqb place i (omega arith), fields_to_lem place k (suc i) cs (omega arith))
 
 -- ---- the line
 
-pub row_fields_lem : (place : ℕ) (cs : List (List ℕ)) → place_as place ≡ text_at cs → row_fields (text_at cs) cs ≡ fields_in (field_count place (length cs) (length (drop_empty cs))) place 0 cs
+pub row_fields_lem : (place : Option ℕ) (cs : List (List ℕ)) → place_as place ≡ text_at cs → row_fields (text_at cs) cs ≡ fields_in (field_count place (length cs) (length (drop_empty cs))) place 0 cs
 unfolding place_as row_fields field_count field_at pick
-row_fields_lem zero cs e = rw (← e) (sym (plain_fields 0 0 cs (λ j c h. rw and-false)))
-row_fields_lem (suc k) cs e = rw (← e) (fields_to_lem (suc k) (suc k) 0 cs (omega arith) (omega arith))
+row_fields_lem None cs e = rw (← e) (sym (plain_fields None 0 cs plain_none))
+row_fields_lem (Some k) cs e = rw (← e) (fields_to_lem k k 0 cs (omega arith))
 
 -- ---- one more cell at a row's end
 
@@ -115,25 +120,18 @@ looked_more {front} {r} {s} {c} k g = record {
 
 -- ---- how many fields a row has
 
--- by the number of its cells, where it has a text
-count_text : (place cells kept : ℕ) → (place ≡ 0 → ⊥) → field_count place cells kept ≡ pick (ltb cells place) cells (max kept (suc place))
-unfolding field_count
-count_text zero cells kept h = absurd (h refl)
-count_text (suc k) cells kept h = refl
-
-module _ (place cells kept : ℕ) where
-  pub count_nowhere : place ≡ 0 → kept ≡ field_count place cells kept
+module _ (place : Option ℕ) (cells kept : ℕ) where
+  pub count_nowhere : place ≡ None → kept ≡ field_count place cells kept
   unfolding field_count
   count_nowhere e = rw e
 
-  pub count_short : (place ≡ 0 → ⊥) → cells < place → cells ≡ field_count place cells kept
-  count_short h l = sym (count_text place cells kept h ∙ pick_true cells (max kept (suc place)) (lt-ltb cells place l))
+  pub count_short : (k : ℕ) → place ≡ Some k → cells < k → cells ≡ field_count place cells kept
+  unfolding field_count pick
+  count_short k e l = rw (e, lt-ltb cells k l)
 
-  pub count_empty : (place ≡ 0 → ⊥) → place ≤ cells → kept ≤ place → place + 1 ≡ field_count place cells kept
-  count_empty h l k = sym (count_text place cells kept h ∙ pick_false cells (max kept (suc place)) (le-ltb cells place l) ∙ omega arith)
-
-  pub count_kept : (place ≡ 0 → ⊥) → place ≤ cells → place < kept → kept ≡ field_count place cells kept
-  count_kept h l k = sym (count_text place cells kept h ∙ pick_false cells (max kept (suc place)) (le-ltb cells place l) ∙ omega arith)
+  pub count_text : (k : ℕ) → place ≡ Some k → k ≤ cells → max kept (k + 1) ≡ field_count place cells kept
+  unfolding field_count pick
+  count_text k e l = rw (e, le-ltb cells k l) (omega arith)
 
 -- at most one more than its cells
 kept_few : (cs : List (List ℕ)) → length (drop_empty cs) ≤ length cs
@@ -141,10 +139,10 @@ unfolding drop_empty
 kept_few [] = omega arith
 kept_few (c ∷ cs) = let h = kept_few cs in omega (arith, kept_cons c (drop_empty cs) 0)
 
-pub count_few : (place : ℕ) (cs : List (List ℕ)) → field_count place (length cs) (length (drop_empty cs)) ≤ suc (length cs)
+pub count_few : (place : Option ℕ) (cs : List (List ℕ)) → field_count place (length cs) (length (drop_empty cs)) ≤ suc (length cs)
 unfolding field_count pick
-count_few zero cs = omega (arith, kept_few cs)
-count_few (suc k) cs =
-    by_test (ltb (length cs) (suc k))
+count_few None cs = omega (arith, kept_few cs)
+count_few (Some k) cs =
+    by_test (ltb (length cs) k)
     (λ e. rw e (omega arith))
-    (λ e. let h = ltb-false (length cs) (suc k) e in rw e (omega (arith, kept_few cs)))
+    (λ e. let h = ltb-false (length cs) k e in rw e (omega (arith, kept_few cs)))

@@ -5,6 +5,7 @@ use mathlib.Core.Bool.{true, false}
 use mathlib.Core.List.{List, []}
 use native.Mathlib.Omega.{arith}
 use lib.ListN.{length, drop}
+use Rattle.std.proofs.Common.{Option, Some, None}
 use Rattle.event.specs.Choice.{pick}
 use Rattle.midicsv.specs.Result.{Result, good, bad}
 use Rattle.sheet_table.specs.Cut.{cut}
@@ -15,8 +16,6 @@ use Rattle.sheet.specs.Code.Cell.{content_of, CellAt}
 use Rattle.sheet.specs.Code.Row.{LoneIs}
 use Rattle.sheet.specs.Code.Walk.{all_empty_in, LoneWithin}
 use Rattle.sheet.specs.declared.Cell.{Cell}
-use Rattle.sheet.specs.declared.LoneStep.{LoneStep}
-use Rattle.sheet.specs.declared.LoneStep.TheVariants.{Lone, Several}
 use Rattle.sheet.proofs.WalkLaws.{in_cell, cell_last, cell_next, plain_rest}
 
 -- ---- are_empty: the cells from a place on
@@ -62,14 +61,22 @@ module _ {sep : ℕ} {l : List ℕ} {from at : ℕ} (g : Emptied sep l from at) 
 
 -- ---- lone_cell
 
-module _ (sep : ℕ) (l : List ℕ) where
-  pub remark_several : is_remark sep l ≡ true → LoneIs sep l Several
-  unfolding LoneIs table_line line_by pick
-  remark_several e = rw e
+-- what is answered of it
+abbrev pub LoneAt : ℕ → List ℕ → Option Cell → Type 0
+LoneAt sep l r = record { fact_1 : LoneIs sep l r; fact_2 : LoneWithin l r }
 
-  pub open_several : cut sep (seen false l) ≡ bad 22 → LoneIs sep l Several
+module _ (sep : ℕ) (l : List ℕ) where
+  no_lone : LoneIs sep l None → LoneAt sep l None
+  unfolding LoneWithin
+  no_lone e = record { fact_1 = e; fact_2 = tt }
+
+  pub remark_several : is_remark sep l ≡ true → LoneAt sep l None
+  unfolding LoneIs table_line line_by pick
+  remark_several e = no_lone (rw e)
+
+  pub open_several : cut sep (seen false l) ≡ bad 22 → LoneAt sep l None
   unfolding LoneIs table_line line_by of_cut seen pick
-  open_several e = ap (λ m. pick (is_remark sep l) l m) (ap (of_cut cells_line) e ∙ sym (ap (of_cut row_line) e))
+  open_several e = no_lone (ap (λ m. pick (is_remark sep l) l m) (ap (of_cut cells_line) e ∙ sym (ap (of_cut row_line) e)))
 
   -- the line by its first cell and the others
   of_cells : (x : List ℕ) (m : Result (List (List ℕ))) → all_empty_in m ≡ false → of_cut cells_line (cons_cell x m) ≡ of_cut row_line (cons_cell x m)
@@ -87,34 +94,34 @@ module _ (sep : ℕ) (l : List ℕ) where
     unfolding seen pick
     cells_here h = cell_next k _ (c.next + 1) (plain_rest l c.next h)
 
-    pub cells_several : c.next < length l → all_empty_in (cut sep (drop (c.next + 1) l)) ≡ false → LoneIs sep l Several
+    pub cells_several : c.next < length l → all_empty_in (cut sep (drop (c.next + 1) l)) ≡ false → LoneAt sep l None
     unfolding LoneIs table_line line_by
-    cells_several h e = ap (λ m. pick (is_remark sep l) l m) (rw (cells_here h) (of_cells (in_cell false l c) (cut sep (drop (c.next + 1) l)) e))
+    cells_several h e = no_lone (ap (λ m. pick (is_remark sep l) l m) (rw (cells_here h) (of_cells (in_cell false l c) (cut sep (drop (c.next + 1) l)) e)))
 
     -- the others are empty, or there are none
-    lone_is : (m : Result (List (List ℕ))) → is_remark sep l ≡ false → cut sep l ≡ cons_cell (in_cell false l c) m → all_empty_in m ≡ true → LoneIs sep l (Lone c) × LoneWithin l (Lone c)
+    lone_is : (m : Result (List (List ℕ))) → is_remark sep l ≡ false → cut sep l ≡ cons_cell (in_cell false l c) m → all_empty_in m ≡ true → LoneAt sep l (Some c)
     unfolding LoneIs LoneWithin table_line line_by seen content_of pick
     lone_is m n h e =
-        (rw n (ap (of_cut cells_line) h ∙ of_lone (in_cell false l c) m e), (k.ordered, omega (arith, k.before, k.inside)))
+        record { fact_1 = rw n (ap (of_cut cells_line) h ∙ of_lone (in_cell false l c) m e); fact_2 = (k.ordered, omega (arith, k.before, k.inside)) }
 
-    pub lone_among : is_remark sep l ≡ false → c.next < length l → all_empty_in (cut sep (drop (c.next + 1) l)) ≡ true → LoneIs sep l (Lone c) × LoneWithin l (Lone c)
+    pub lone_among : is_remark sep l ≡ false → c.next < length l → all_empty_in (cut sep (drop (c.next + 1) l)) ≡ true → LoneAt sep l (Some c)
     lone_among n h e = lone_is (cut sep (drop (c.next + 1) l)) n (cells_here h) e
 
-    pub lone_last : is_remark sep l ≡ false → length l ≤ c.next → LoneIs sep l (Lone c) × LoneWithin l (Lone c)
+    pub lone_last : is_remark sep l ≡ false → length l ≤ c.next → LoneAt sep l (Some c)
     unfolding seen pick cons_cell all_empty_in all_empty
     lone_last n h = lone_is (good []) n (cell_last k h) refl
 
 -- ---- put_line
 
-module _ (sep : ℕ) (l : List ℕ) (r : LoneStep) (i : LoneIs sep l r) where
-  pub several_line : r ≡ Several → line_by row_line sep (seen false l) ≡ table_line sep l
+module _ (sep : ℕ) (l : List ℕ) where
+  pub several_line : LoneIs sep l None → line_by row_line sep (seen false l) ≡ table_line sep l
   unfolding LoneIs seen pick
-  several_line z = let e : LoneIs sep l Several = rw z at i in sym e
+  several_line e = sym e
 
-  pub lone_line : (c : Cell) → r ≡ Lone c → line_by row_line 44 (seen c.quoted (slice c.from c.to l)) ≡ table_line sep l
+  pub lone_line : (c : Cell) → LoneIs sep l (Some c) → line_by row_line 44 (seen c.quoted (slice c.from c.to l)) ≡ table_line sep l
   unfolding LoneIs
-  lone_line c z = let e : LoneIs sep l (Lone c) = rw z at i in sym e
+  lone_line c e = sym e
 
-pub lone_within : (l : List ℕ) (r : LoneStep) (c : Cell) → LoneWithin l r → r ≡ Lone c → (c.from ≤ c.to) × (c.to ≤ length l)
+pub lone_within : (l : List ℕ) (c : Cell) → LoneWithin l (Some c) → (c.from ≤ c.to) × (c.to ≤ length l)
 unfolding LoneWithin
-lone_within l r c w z = rw z at w
+lone_within l c w = w

@@ -1,14 +1,15 @@
 -- Where the text of a record stands, by its name.
 use mathlib.Core.Path.{◌≡◌, refl, sym, ap}
 use Prim.Native.Nat.{ℕ}
-use mathlib.Core.Bool.{Bool, true, false, ◌&&◌}
+use mathlib.Core.Bool.{Bool, true, false, ◌&&◌, ◌||◌}
 use mathlib.Core.List.{List, [], ◌∷◌, ◌++◌}
 use native.Mathlib.Omega.{arith}
 use lib.ListN.{take, drop}
 use lib.Dec.{eqb}
 use borrow.Author.Tests.{eqb-true}
 use Rattle.event.specs.Choice.{pick}
-use Rattle.event.proofs.ChoiceLaws.{and_both}
+use Rattle.event.proofs.ChoiceLaws.{and_both, or_cases}
+use Rattle.sheet_table.proofs.CutLaws.{or_left, or_right}
 use Rattle.midicsv.specs.Field.{bytes}
 use Rattle.midicsv.specs.Table.{words, key_signature_name, RecordName, event, spelled, event_spelled, event_shape, shape}
 use Rattle.midicsv.specs.Names.{all_names, lower, same_name, find}
@@ -32,7 +33,7 @@ unfolding find
 find_same s a [] e = refl
 find_same s a (n ∷ ns) e = rw (same_as s a (spelled n) e, find_same s a ns e)
 
-pub named : (s a : List ℕ) → same_name s a ≡ true → text_of_name (find a all_names) ≡ text_of_name (find s all_names)
+named : (s a : List ℕ) → same_name s a ≡ true → text_of_name (find a all_names) ≡ text_of_name (find s all_names)
 named s a e = ap text_of_name (sym (find_same s a all_names e))
 
 -- ---- a name that is none of those with a text
@@ -72,7 +73,7 @@ module _ (s : List ℕ) where
       past_one (same_name s (spelled n)) n (find s (ns ++ ms)) (nowhere_is (text_of_name (good n)) x) (past ns ms y h)
 
   -- of the names with a text it is none
-  pub unnamed : same_name s (bytes "Text_t") ≡ false → same_name s (bytes "Copyright_t") ≡ false → same_name s (bytes "Title_t") ≡ false → same_name s (bytes "Instrument_name_t") ≡ false
+  unnamed : same_name s (bytes "Text_t") ≡ false → same_name s (bytes "Copyright_t") ≡ false → same_name s (bytes "Title_t") ≡ false → same_name s (bytes "Instrument_name_t") ≡ false
       → same_name s (bytes "Lyric_t") ≡ false → same_name s (bytes "Marker_t") ≡ false → same_name s (bytes "Cue_point_t") ≡ false → same_name s (bytes "Key_signature") ≡ false
       → text_of_name (find s all_names) ≡ nowhere
   unfolding no_text is_nowhere text_of_name text_from shape event_shape spelled event_spelled find
@@ -88,3 +89,34 @@ module _ (s : List ℕ) where
       (past (take 6 (drop 20 all_names)) (drop 26 all_names) refl
       (other (event key_signature_name) (drop 27 all_names) h
       (past (drop 27 all_names) [] refl refl))))))))))
+
+  -- one of the seven texts
+  abbrev is_text_name : Bool
+  is_text_name =
+      same_name s (bytes "Text_t") || (same_name s (bytes "Copyright_t") || (same_name s (bytes "Title_t") || (same_name s (bytes "Instrument_name_t")
+      || (same_name s (bytes "Lyric_t") || (same_name s (bytes "Marker_t") || (same_name s (bytes "Cue_point_t") || false))))))
+
+  pub text_named : is_text_name ≡ true → after 3 ≡ text_of_name (find s all_names)
+  unfolding text_of_name text_from find pick same_name lower spelled event_spelled shape event_shape
+  text_named e =
+      or_cases _ _ e (named s (bytes "Text_t")) (λ e1.
+      or_cases _ _ e1 (named s (bytes "Copyright_t")) (λ e2.
+      or_cases _ _ e2 (named s (bytes "Title_t")) (λ e3.
+      or_cases _ _ e3 (named s (bytes "Instrument_name_t")) (λ e4.
+      or_cases _ _ e4 (named s (bytes "Lyric_t")) (λ e5.
+      or_cases _ _ e5 (named s (bytes "Marker_t")) (λ e6.
+      or_cases _ _ e6 (named s (bytes "Cue_point_t")) (λ e7. cc)))))))
+
+  pub key_named : same_name s (bytes "Key_signature") ≡ true → after 4 ≡ text_of_name (find s all_names)
+  unfolding text_of_name text_from find pick same_name lower spelled event_spelled shape event_shape
+  key_named e = named s (bytes "Key_signature") e
+
+  pub none_named : is_text_name ≡ false → same_name s (bytes "Key_signature") ≡ false → nowhere ≡ text_of_name (find s all_names)
+  none_named e h =
+      let e1 = or_right _ _ e in
+      let e2 = or_right _ _ e1 in
+      let e3 = or_right _ _ e2 in
+      let e4 = or_right _ _ e3 in
+      let e5 = or_right _ _ e4 in
+      let e6 = or_right _ _ e5 in
+      sym (unnamed (or_left _ _ e) (or_left _ _ e1) (or_left _ _ e2) (or_left _ _ e3) (or_left _ _ e4) (or_left _ _ e5) (or_left _ _ e6) h)

@@ -1,18 +1,19 @@
 -- How long the line of a row can be.
 use mathlib.Core.Path.{◌≡◌, subst}
 use Prim.Native.Nat.{ℕ, zero, suc, ◌+◌, ◌*◌, ◌≤◌}
-use mathlib.Core.Bool.{Bool, true, false, ◌||◌, ◌&&◌, not}
+use mathlib.Core.Bool.{Bool, true, false, ◌||◌}
 use mathlib.Core.List.{List, [], ◌∷◌}
 use native.Mathlib.Omega.{arith}
 use lib.ListN.{length, length-append}
 use lib.Dec.{eqb}
+use Rattle.std.proofs.Common.{Option}
 use Rattle.event.specs.Choice.{pick}
 use Rattle.midicsv.specs.Result.{Result, good, bad}
 use Rattle.midicsv.specs.Lines.{onto}
 use Rattle.sheet_table.specs.Cut.{has, blank_beside, Within, bare, lead, quotes, a_quote, closed, opening, on_cell, new_cell, cut_from, cut}
 use Rattle.sheet_table.specs.Table.{doubled, requote, plain_cell, further_joined, joined}
 use Rattle.sheet.specs.Code.Seen.{singled, seen}
-use Rattle.sheet.specs.Code.Row.{field_at, fields_in}
+use Rattle.sheet.specs.Code.Row.{is_text, field_at, fields_in}
 use Rattle.sheet.specs.Code.Walk.{fields_of, Fielded}
 
 -- ---- the cells of a row are no longer than the row
@@ -82,13 +83,13 @@ requote_few : (c : List ℕ) → length (requote c) ≤ 2 * length c + 2
 unfolding requote
 requote_few c = omega (arith, length-append (doubled c) (34 ∷ []), doubled_few c)
 
-field_few : (place i : ℕ) (c : List ℕ) → length (field_at place i c) ≤ 2 * length c + 2
+field_few : (place : Option ℕ) (i : ℕ) (c : List ℕ) → length (field_at place i c) ≤ 2 * length c + 2
 unfolding field_at plain_cell
 field_few place i c =
-    pick_few (2 * length c + 2) (eqb i place && not (eqb place 0)) (requote c) (plain_cell c) (requote_few c)
+    pick_few (2 * length c + 2) (is_text place i) (requote c) (plain_cell c) (requote_few c)
     (pick_few (2 * length c + 2) (has 44 c || has 34 c) (requote c) c (requote_few c) (omega arith))
 
-fields_few : (n place i : ℕ) (cs : List (List ℕ)) → length (further_joined (fields_in n place i cs)) ≤ 3 * n + 2 * total cs
+fields_few : (n : ℕ) (place : Option ℕ) (i : ℕ) (cs : List (List ℕ)) → length (further_joined (fields_in n place i cs)) ≤ 3 * n + 2 * total cs
 unfolding further_joined fields_in total
 fields_few zero place i cs = omega arith
 fields_few (suc n) place i [] = omega (arith, length-append (field_at place i []) (further_joined (fields_in n place (suc i) [])), field_few place i [], fields_few n place (suc i) [])
@@ -99,7 +100,7 @@ unfolding joined further_joined
 joined_few [] = omega arith
 joined_few (f ∷ fs) = omega arith
 
-row_few : (count place n : ℕ) (m : Result (List (List ℕ))) → Fielded count m → Few n m → length (fields_of count place m) ≤ 3 * n + 6
+row_few : (count : ℕ) (place : Option ℕ) (n : ℕ) (m : Result (List (List ℕ))) → Fielded count m → Few n m → length (fields_of count place m) ≤ 3 * n + 6
 unfolding Fielded Few fields_of
 row_few count place n (good cs) h g = omega (arith, joined_few (fields_in count place 0 cs), fields_few count place 0 cs)
 row_few count place n (bad k) h g = absurd h
@@ -124,7 +125,7 @@ unfolding cut
 cells_few sep twice l cs e =
     omega (arith, few_cells (length (seen twice l)) cs (subst (Few (length (seen twice l))) e (cut_few sep (seen twice l) (opening sep (seen twice l)))), seen_few twice l)
 
-pub line_few : (sep : ℕ) (twice : Bool) (count place : ℕ) (l : List ℕ) → Fielded count (cut sep (seen twice l)) → length (fields_of count place (cut sep (seen twice l))) ≤ 3 * length l + 6
+pub line_few : (sep : ℕ) (twice : Bool) (count : ℕ) (place : Option ℕ) (l : List ℕ) → Fielded count (cut sep (seen twice l)) → length (fields_of count place (cut sep (seen twice l))) ≤ 3 * length l + 6
 unfolding cut
 line_few sep twice count place l h =
     omega (arith, row_few count place (length (seen twice l)) (cut sep (seen twice l)) h (cut_few sep (seen twice l) (opening sep (seen twice l))), seen_few twice l)

@@ -1,19 +1,16 @@
 -- Where a table begins, and what separates its cells.
-use mathlib.Core.Path.{◌≡◌, refl}
-use Prim.Native.Nat.{ℕ, ◌+◌, ◌-◌, ◌<◌, ◌≤◌}
+use mathlib.Core.Path.{◌≡◌, refl, ◌∙◌}
+use Prim.Native.Nat.{ℕ, ◌-◌, ◌<◌, ◌≤◌}
 use mathlib.Core.Bool.{true, false, ◌&&◌}
 use mathlib.Core.List.{List, [], ◌∷◌}
 use native.Mathlib.Omega.{arith}
-use native.Mathlib.Numerals.{add-one}
-use lib.ListN.{length, get_or, take, drop, drop_of_length-le}
-use lib.Seq.{drop-cons}
+use lib.ListN.{length, get_or, take, drop, length-drop, drop_of_length-le}
 use lib.Dec.{eqb}
-use borrow.Author.Tests.{eqb-true, ne_eqb}
+use borrow.Author.Tests.{eq-eqb, ne_eqb}
+use Rattle.std.proofs.lemmas.List.{take_all}
 use Rattle.event.specs.Choice.{pick}
-use Rattle.event.proofs.ChoiceLaws.{by_test}
 use Rattle.midicsv.specs.Lines.{lines_of, trimmed, passed_over}
 use Rattle.midicsv_scan.specs.Cut.{CutAt}
-use Rattle.sheet_table.specs.Cut.{has}
 use Rattle.sheet_table.specs.Table.{sep_in, sep_of, unmarked}
 
 -- ---- the byte order mark
@@ -25,7 +22,7 @@ unmarked_short (a ∷ []) h = refl
 unmarked_short (a ∷ b ∷ []) h = refl
 unmarked_short (a ∷ b ∷ c ∷ s) h = absurd (omega arith)
 
-pub unmarked_long : (s : List ℕ) → 3 ≤ length s
+unmarked_long : (s : List ℕ) → 3 ≤ length s
     → pick (eqb (get_or s 0 0) 239 && (eqb (get_or s 1 0) 187 && eqb (get_or s 2 0) 191)) (drop 3 s) s ≡ unmarked s
 unfolding unmarked
 unmarked_long [] h = absurd (omega arith)
@@ -33,45 +30,24 @@ unmarked_long (a ∷ []) h = absurd (omega arith)
 unmarked_long (a ∷ b ∷ []) h = absurd (omega arith)
 unmarked_long (a ∷ b ∷ c ∷ s) h = refl
 
--- ---- the separator of a line, looked for byte by byte
+module _ (s : List ℕ) (h : 3 ≤ length s) where
+  pub no_mark_first : (get_or s 0 0 ≡ 239 → ⊥) → s ≡ unmarked s
+  unfolding pick
+  no_mark_first n = rw (ne_eqb _ 239 n) at (unmarked_long s h)
 
--- what separates, where a semicolon or a tab was found before the rest l (0: neither)
-abbrev pub SepFrom : ℕ → List ℕ → ℕ
-SepFrom found l = pick (has 44 l) 44 (pick (has 59 l) 59 (pick (eqb found 0) (pick (has 9 l) 9 44) found))
+  module _ (a : get_or s 0 0 ≡ 239) where
+    pub no_mark_second : (get_or s 1 0 ≡ 187 → ⊥) → s ≡ unmarked s
+    unfolding pick
+    no_mark_second n = rw (eq-eqb _ 239 a, ne_eqb _ 187 n) at (unmarked_long s h)
 
-pub sep_first : (l : List ℕ) → SepFrom 0 l ≡ sep_in l
-unfolding sep_in pick
-sep_first l = refl
+    module _ (b : get_or s 1 0 ≡ 187) where
+      pub no_mark_third : (get_or s 2 0 ≡ 191 → ⊥) → s ≡ unmarked s
+      unfolding pick
+      no_mark_third n = rw (eq-eqb _ 239 a, eq-eqb _ 187 b, ne_eqb _ 191 n) at (unmarked_long s h)
 
--- what is found with a byte more, which is no comma
-abbrev Noted : ℕ → ℕ → ℕ
-Noted found c = pick (eqb c 59) 59 (pick (eqb c 9 && eqb found 0) 9 found)
-
-noted_byte : (found c : ℕ) (l : List ℕ) → (c ≡ 44 → ⊥) → SepFrom (Noted found c) l ≡ SepFrom found (c ∷ l)
-unfolding has pick
-noted_byte found c l h =
-    by_test (eqb c 59)
-    (λ t.
-    let e : c ≡ 59 = eqb-true c 59 t in
-    rw e (by_test (has 59 l) (λ u. rw u refl) (λ u. rw u refl)))
-    (λ t.
-    by_test (eqb c 9)
-    (λ u.
-    let e : c ≡ 9 = eqb-true c 9 u in
-    rw e (by_test (eqb found 0) (λ v. rw v refl) (λ v. rw (v, v) refl)))
-    (λ u. rw (t, u, ne_eqb c 44 h) refl))
-
-module _ (l : List ℕ) (found i : ℕ) where
-  pub sep_byte_lem : i < length l → (get_or l i 0 ≡ 44 → ⊥) → SepFrom (Noted found (get_or l i 0)) (drop (i + 1) l) ≡ SepFrom found (drop i l)
-  sep_byte_lem h n = rw (add-one, drop-cons l i 0 h) (noted_byte found (get_or l i 0) _ n)
-
-  pub sep_comma : i < length l → get_or l i 0 ≡ 44 → 44 ≡ SepFrom found (drop i l)
-  unfolding has pick
-  sep_comma h e = rw (drop-cons l i 0 h, e) refl
-
-  pub sep_end : length l ≤ i → pick (eqb found 0) 44 found ≡ SepFrom found (drop i l)
-  unfolding has pick
-  sep_end h = rw (drop_of_length-le l h) refl
+      pub mark_is : get_or s 2 0 ≡ 191 → take (length s - 3) (drop 3 s) ≡ unmarked s
+      unfolding pick
+      mark_is e = take_all (length s - 3) (drop 3 s) (omega (arith, length-drop 3 s)) ∙ (rw (eq-eqb _ 239 a, eq-eqb _ 187 b, eq-eqb _ 191 e) at (unmarked_long s h))
 
 -- ---- the separator of a table, looked for line by line
 

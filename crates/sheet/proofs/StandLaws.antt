@@ -1,14 +1,14 @@
 -- A row without a quote, without a text and with no empty cell at its end: its line is the row itself.
 use mathlib.Core.Path.{◌≡◌, refl, sym, ap, ap₂, ◌∙◌}
-use Prim.Native.Nat.{ℕ, suc, ◌+◌, ◌<◌, ◌≤◌}
+use Prim.Native.Nat.{ℕ, suc}
 use mathlib.Core.Bool.{Bool, true, false, ◌&&◌, ◌||◌, not}
 use mathlib.Core.List.{List, [], ◌∷◌, ◌++◌}
 use native.Mathlib.Omega.{arith}
-use native.Mathlib.Numerals.{add-one}
-use lib.ListN.{length, drop, get_or, drop_of_length-le}
-use lib.Seq.{drop-cons}
+use lib.ListN.{length}
 use lib.Dec.{eqb}
-use borrow.Author.Tests.{eq-eqb, ne_eqb, eqb-true}
+use borrow.Author.Tests.{eqb-true}
+use Rattle.std.proofs.Common.{Option, Some, None}
+use Rattle.std.specs.Option.{is_none}
 use Rattle.event.specs.Choice.{pick}
 use Rattle.event.proofs.ChoiceLaws.{by_test, pick_true, pick_false, and_both}
 use Rattle.midicsv.specs.Lines.{onto}
@@ -18,38 +18,9 @@ use Rattle.sheet_table.specs.Table.{is_empty, keep_before, drop_empty, plain_cel
 use Rattle.sheet.specs.Code.Seen.{seen}
 use Rattle.sheet.specs.Code.Row.{place_as, RowIs}
 use Rattle.sheet.specs.declared.Row.{Row}
-use Rattle.sheet.specs.declared.RowStep.{RowStep}
-use Rattle.sheet.specs.declared.RowStep.TheVariants.{Cells}
 use Rattle.sheet_table.proofs.CutLaws.{or_left, or_right}
 use Rattle.sheet.proofs.PartLaws.{cut_part, cells_of}
 use Rattle.sheet.proofs.QuoteLaws.{unquoted}
-
--- ---- the search for a quote: the answer on the whole is the answer on what is left
-
-abbrev pub Quoting : List ℕ → ℕ → Type 0
-Quoting l p = has 34 l ≡ has 34 (drop p l)
-
-quote_first : (x : ℕ) (l : List ℕ) → x ≡ 34 → has 34 (x ∷ l) ≡ true
-unfolding has
-quote_first x l e = rw e refl
-
-quote_later : (x : ℕ) (l : List ℕ) → (x ≡ 34 → ⊥) → has 34 (x ∷ l) ≡ has 34 l
-unfolding has
-quote_later x l n = rw (ne_eqb x 34 n) refl
-
-quote_none : has 34 [] ≡ false
-unfolding has
-quote_none = refl
-
-module _ (l : List ℕ) (p : ℕ) (g : Quoting l p) where
-  pub quoting_here : p < length l → get_or l p 0 ≡ 34 → true ≡ has 34 l
-  quoting_here h e = sym (g ∙ ap (has 34) (drop-cons l p 0 h) ∙ quote_first (get_or l p 0) (drop (suc p) l) e)
-
-  pub quoting_on : p < length l → (get_or l p 0 ≡ 34 → ⊥) → Quoting l (p + 1)
-  quoting_on h n = g ∙ ap (has 34) (drop-cons l p 0 h) ∙ quote_later (get_or l p 0) (drop (suc p) l) n ∙ rw (add-one p) refl
-
-  pub quoting_end : length l ≤ p → false ≡ has 34 l
-  quoting_end h = sym (g ∙ ap (has 34) (drop_of_length-le l h) ∙ quote_none)
 
 -- ---- without a quote each cell is bare
 
@@ -156,36 +127,28 @@ seen_free false l n = refl
 -- ---- the test of a row
 
 abbrev pub Stands : ℕ → Row → List ℕ → Bool
-Stands sep row l = eqb sep 44 && (eqb row.place 0 && (eqb row.kept row.cells && not (has 34 l)))
+Stands sep row l = eqb sep 44 && (is_none row.place && (eqb row.kept row.cells && not (has 34 l)))
 
-module _ (sep : ℕ) (row : Row) (l : List ℕ) where
-  pub stands_sep : (sep ≡ 44 → ⊥) → false ≡ Stands sep row l
-  stands_sep n = rw (ne_eqb sep 44 n) refl
-
-  pub stands_place : sep ≡ 44 → (row.place ≡ 0 → ⊥) → false ≡ Stands sep row l
-  stands_place s n = rw (eq-eqb sep 44 s, ne_eqb row.place 0 n) refl
-
-  pub stands_kept : sep ≡ 44 → row.place ≡ 0 → (row.kept ≡ row.cells → ⊥) → false ≡ Stands sep row l
-  stands_kept s p n = rw (eq-eqb sep 44 s, eq-eqb row.place 0 p, ne_eqb row.kept row.cells n) refl
-
-  pub stands_quote : sep ≡ 44 → row.place ≡ 0 → row.kept ≡ row.cells → (b : Bool) → b ≡ has 34 l → not b ≡ Stands sep row l
-  stands_quote s p k b e = rw (eq-eqb sep 44 s, eq-eqb row.place 0 p, eq-eqb row.kept row.cells k) (ap not e)
+no_place : (place : Option ℕ) → is_none place ≡ true → place_as place ≡ nowhere
+unfolding place_as
+no_place None e = refl
+no_place (Some k) e = cc
 
 not_true : (b : Bool) → not b ≡ true → b ≡ false
 not_true true e = let z : ◌≡◌ {A = ℕ} 0 1 = cc in absurd (omega arith)
 not_true false e = refl
 
 -- such a part of a line is its line
-pub stands_part : (sep : ℕ) (twice : Bool) (l : List ℕ) (r : RowStep) → RowIs sep twice l r → (row : Row) → r ≡ Cells row → is_remark sep (seen twice l) ≡ false → Stands sep row l ≡ true
+pub stands_part : (sep : ℕ) (twice : Bool) (l : List ℕ) (row : Row) → RowIs sep twice l (Some row) → is_remark sep (seen twice l) ≡ false → Stands sep row l ≡ true
     → l ≡ line_by row_line sep (seen twice l)
-unfolding of_cut place_as
-stands_part sep twice l r i row z n h =
-    let (cs, e, k) = cells_of sep twice l r i row z in
+unfolding of_cut
+stands_part sep twice l row i n h =
+    let (cs, e, k) = cells_of sep twice l row i in
     let (s, g) = and_both (eqb sep 44) _ h in
-    let (p, f) = and_both (eqb row.place 0) _ g in
+    let (p, f) = and_both (is_none row.place) _ g in
     let (w, q) = and_both (eqb row.kept row.cells) _ f in
     let free = not_true (has 34 l) q in
     let c : cut 44 l ≡ good cs = sym (ap₂ cut (eqb-true sep 44 s) (seen_free twice l free)) ∙ e in
-    let t : text_at cs ≡ nowhere = sym k.place ∙ ap place_as (eqb-true row.place 0 p) in
+    let t : text_at cs ≡ nowhere = sym k.place ∙ no_place row.place p in
     let d : length (drop_empty cs) ≡ length cs = sym k.kept ∙ eqb-true row.kept row.cells w ∙ k.cells in
     sym (row_stands l cs free c t d) ∙ sym (ap (of_cut row_line) e) ∙ cut_part sep twice l n

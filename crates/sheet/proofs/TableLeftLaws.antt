@@ -3,6 +3,10 @@ use mathlib.Core.Path.{◌≡◌, refl, ap}
 use Prim.Native.Nat.{ℕ, ◌-◌, ◌≤◌}
 use mathlib.Core.List.{List, [], ◌∷◌, ◌++◌}
 use native.Mathlib.Omega.{arith}
+use mathlib.Core.Bool.{◌&&◌}
+use lib.Dec.{eqb}
+use Rattle.event.specs.Choice.{pick}
+use Rattle.event.proofs.ChoiceLaws.{by_test}
 use lib.ListN.{length, take, drop, drop_of_length-le}
 use Rattle.midicsv.specs.Lines.{lines_of, trimmed}
 use Rattle.midicsv_scan.specs.Cut.{CutAt}
@@ -28,7 +32,14 @@ pub no_lines_left : (sep : ℕ) (s : List ℕ) (i : ℕ) → length s ≤ i → 
 unfolding lines_of table_lines
 no_lines_left sep s i h = rw (drop_of_length-le s h) refl
 
+pub unmarked_size : (s : List ℕ) → length (unmarked s) ≤ length s
+unfolding unmarked pick
+unmarked_size [] = omega arith
+unmarked_size (a ∷ []) = omega arith
+unmarked_size (a ∷ b ∷ []) = omega arith
+unmarked_size (a ∷ b ∷ c ∷ s) = by_test (eqb a 239 && (eqb b 187 && eqb c 191)) (λ t. rw t (omega arith)) (λ t. rw t (omega arith))
+
 -- all of them, from after the byte order mark on
-pub whole_left : (s : List ℕ) (start sep : ℕ) → drop start s ≡ unmarked s → sep ≡ sep_of (lines_of (drop start s)) → TableLeft sep s start ≡ table_text s
+pub whole_left : (s table : List ℕ) (sep : ℕ) → table ≡ unmarked s → sep ≡ sep_of (lines_of table) → table_lines sep (lines_of table) ≡ table_text s
 unfolding table_text table_of
-whole_left s start sep e f = rw (f, e) refl
+whole_left s table sep e f = rw (f, e) refl

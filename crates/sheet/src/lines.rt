@@ -1,74 +1,69 @@
 // A line of a saved table as a line of a text.
-ghost use Rattle.std.specs.Prelude.{◌≡◌, ◌<◌, ◌≤◌, ◌^◌, length, drop};
+ghost use Rattle.std.specs.Prelude.{◌≡◌, ◌<◌, ◌≤◌, ◌^◌, false, length, drop};
 ghost use Rattle.event_write.specs.Written.{Written};
 ghost use Rattle.sheet_table.specs.Cut.{cut};
 ghost use Rattle.sheet_table.specs.Table.{table_line};
 ghost use Rattle.sheet.specs.Code.Row.{LoneIs};
 ghost use Rattle.sheet.specs.Code.Walk.{all_empty_in, LoneWithin};
 
-use super::cutting::cell_at;
-use super::part::{is_empty_cell, is_remark_line};
-use super::rows::put_part;
-use super::{CellStep, LoneStep};
+use super::{COMMA, Cell, LinePart};
 
-const COMMA: u8 = 44;
-
-// Whether the cells from a place after a separator on are all empty; no where the line cannot be cut.
-fn are_empty(line: &[u8], from: usize, sep: u8) -> bool
-    requires { from ≤ length line.now }
-    ensures { result ≡ all_empty_in (cut sep (drop from line.now)) }
+// Whether the cells of a line from a place after a separator on are all empty; no where it cannot be cut.
+fn are_empty(line: LinePart, from: usize) -> bool
+    requires fact_1 { from ≤ length line.bytes.now }
+    requires fact_2 { line.twice ≡ false }
+    ensures { result ≡ all_empty_in (cut line.entry.sep (drop from line.entry.bytes.now)) }
 {
     let mut at = from;
+    // each cell tells where the next begins, and the first that cannot be cut ends it: no iterator is plainer
     loop {
-        let CellStep::Found(cell) = cell_at(line, at, sep, false) else {
+        let Some(cell) = line.cell_at(at) else {
             return false;
         };
-        let a = cell.from;
-        let b = cell.to;
-        let next = cell.next;
-        let quoted = cell.quoted;
-        if !is_empty_cell(&line[a..b], false, quoted) {
+        if !line.content(cell).is_empty() {
             return false;
         }
-        if line.len() <= next {
+        if line.bytes.len() <= cell.next {
             return true;
         }
-        at = next + 1;
+        at = cell.next + 1;
     }
 }
 
-// The one cell of a line whose other cells are empty.
-fn lone_cell(line: &[u8], sep: u8) -> LoneStep
-    ensures fact_1 { LoneIs sep line.now result }
-    ensures fact_2 { LoneWithin line.now result }
+// The one cell of a line whose other cells are empty, where there is one.
+fn lone_cell(line: LinePart) -> Option<Cell>
+    requires { line.twice ≡ false }
+    ensures fact_1 { LoneIs line.entry.sep line.entry.bytes.now result }
+    ensures fact_2 { LoneWithin line.entry.bytes.now result }
 {
-    if is_remark_line(line, sep, false) {
-        return LoneStep::Several;
+    if line.is_remark() {
+        return None;
     }
-    let CellStep::Found(cell) = cell_at(line, 0, sep, false) else {
-        return LoneStep::Several;
-    };
-    let next = cell.next;
-    if line.len() <= next {
-        return LoneStep::Lone(cell);
+    let cell = line.cell_at(0)?;
+    if line.bytes.len() <= cell.next || are_empty(line, cell.next + 1) {
+        return Some(cell);
     }
-    if are_empty(line, next + 1, sep) {
-        return LoneStep::Lone(cell);
-    }
-    LoneStep::Several
+    None
 }
 
 // The line of the text.
-pub fn put_line(out: &mut [u8], at: usize, line: &[u8], sep: u8) -> usize
+pub fn put_line(out: &mut [u8], at: usize, bytes: &[u8], sep: u8) -> usize
     requires fact_1 { at < 2 ^ 38 }
-    requires fact_2 { length line.now ≤ 268435456 }
-    ensures { Written out.old at (table_line sep line.now) out.new result }
+    requires fact_2 { length bytes.now ≤ 268435456 }
+    ensures { Written out.old at (table_line sep bytes.now) out.new result }
 {
-    let LoneStep::Lone(cell) = lone_cell(line, sep) else {
-        return put_part(out, at, line, sep, false);
+    let line = LinePart {
+        bytes,
+        sep,
+        twice: false,
     };
-    let from = cell.from;
-    let to = cell.to;
-    let quoted = cell.quoted;
-    put_part(out, at, &line[from..to], COMMA, quoted)
+    let Some(cell) = lone_cell(line) else {
+        return line.put(out, at);
+    };
+    let held = LinePart {
+        bytes: &bytes[cell.from..cell.to],
+        sep: COMMA,
+        twice: cell.quoted,
+    };
+    held.put(out, at)
 }

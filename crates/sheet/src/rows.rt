@@ -1,5 +1,5 @@
 // A row of cells as a line of a text.
-ghost use Rattle.std.specs.Prelude.{◌≡◌, ◌&&◌, not, ◌<◌, ◌≤◌, ◌^◌, eqb, length};
+ghost use Rattle.std.specs.Prelude.{◌≡◌, ◌&&◌, not, is_none, ◌<◌, ◌≤◌, ◌^◌, eqb, length};
 ghost use Rattle.event.specs.Choice.{pick};
 ghost use Rattle.event_write.specs.Written.{Written};
 ghost use Rattle.midicsv.specs.ReadField.{read_field};
@@ -10,88 +10,53 @@ ghost use Rattle.sheet.specs.Code.Cell.{content_of};
 ghost use Rattle.sheet.specs.Code.Row.{place_as, RowIs, field_count};
 ghost use Rattle.sheet.specs.Code.Walk.{Grown, Stepped, comma, fields_of, Fielded};
 
-use super::cutting::cell_at;
-use super::field::{put_cell, put_seen};
-use super::name::text_place;
-use super::part::{after_byte, is_empty_cell, is_remark_line};
-use super::{CellStep, Row, RowStep};
+use super::field::put_seen;
+use super::part::after_byte;
+use super::{COMMA, Content, LinePart, Row};
 use event_write::bytes::{put_byte, put_bytes};
 
-// How many cells stand up to the last that is not empty, after the cell numbered cells - 1.
-fn kept_after(kept: usize, cells: usize, raw: &[u8], twice: bool, quoted: bool) -> usize
-    ensures { result ≡ pick (is_empty (content_of quoted (seen twice raw.now))) kept cells }
-{
-    if is_empty_cell(raw, twice, quoted) {
-        return kept;
+impl Row {
+    // How many cells stand up to the last that is not empty, after the cell numbered cells - 1.
+    fn kept_after(self, cells: usize, content: Content) -> usize
+        ensures { result ≡ pick (is_empty (content_of content.entry.quoted (seen content.entry.twice content.entry.bytes.now))) self.kept cells }
+    {
+        if content.is_empty() { self.kept } else { cells }
     }
-    cells
-}
 
-// How many cells stand before the text, after the cell numbered cells - 1: the third tells.
-fn place_after(place: usize, cells: usize, raw: &[u8], twice: bool, quoted: bool) -> usize
-    ensures { place_as result ≡ pick (eqb cells 3) (text_of_name (name_in (read_field (content_of quoted (seen twice raw.now))))) (place_as place) }
-{
-    if cells == 3 {
-        return text_place(raw, twice, quoted);
-    }
-    place
-}
-
-// What is known of a row after its cell numbered row.cells.
-fn with_cell(row: Row, raw: &[u8], twice: bool, quoted: bool) -> Row
-    requires { row.cells < 2 ^ 63 }
-    ensures { Grown row (content_of quoted (seen twice raw.now)) result }
-{
-    let cells = row.cells + 1;
-    let kept = kept_after(row.kept, cells, raw, twice, quoted);
-    let place = place_after(row.place, cells, raw, twice, quoted);
-    Row { cells, kept, place }
-}
-
-// Looks through a row.
-pub fn look(part: &[u8], sep: u8, twice: bool) -> RowStep
-    ensures { RowIs sep twice part.now result }
-{
-    let mut row = Row {
-        cells: 0,
-        kept: 0,
-        place: 0,
-    };
-    let mut at = 0;
-    loop {
-        let CellStep::Found(cell) = cell_at(part, at, sep, twice) else {
-            return RowStep::Uncut;
-        };
-        let from = cell.from;
-        let to = cell.to;
-        let next = cell.next;
-        let quoted = cell.quoted;
-        row = with_cell(row, &part[from..to], twice, quoted);
-        if part.len() <= next {
-            return RowStep::Cells(row);
+    // How many cells stand before the text, after the cell numbered cells - 1: the third tells.
+    fn place_after(self, cells: usize, content: Content) -> Option<usize>
+        ensures { place_as result ≡ pick (eqb cells 3) (text_of_name (name_in (read_field (content_of content.entry.quoted (seen content.entry.twice content.entry.bytes.now))))) (place_as self.place) }
+    {
+        if cells == 3 {
+            return content.text_place();
         }
-        at = after_byte(part, next, twice);
+        self.place
     }
-}
 
-// How many fields the row's line has.
-fn field_count(row: Row) -> usize
-    requires { row.cells < 2 ^ 32 }
-    ensures { result ≡ field_count row.place row.cells row.kept }
-{
-    let place = row.place;
-    let cells = row.cells;
-    let kept = row.kept;
-    if place == 0 {
-        return kept;
+    // What is known of a row after its cell numbered self.cells.
+    fn with_cell(self, content: Content) -> Row
+        requires { self.cells < 2 ^ 63 }
+        ensures { Grown self (content_of content.entry.quoted (seen content.entry.twice content.entry.bytes.now)) result }
+    {
+        let cells = self.cells + 1;
+        Row {
+            cells,
+            kept: self.kept_after(cells, content),
+            place: self.place_after(cells, content),
+        }
     }
-    if cells < place {
-        return cells;
+
+    // How many fields the row's line has.
+    fn field_count(self) -> usize
+        requires { self.cells < 2 ^ 32 }
+        ensures { result ≡ field_count self.place self.cells self.kept }
+    {
+        match self.place {
+            None => self.kept,
+            Some(place) if self.cells < place => self.cells,
+            Some(place) => self.kept.max(place + 1),
+        }
     }
-    if kept <= place {
-        return place + 1;
-    }
-    kept
 }
 
 // A comma before a field that is not the first.
@@ -102,117 +67,89 @@ fn put_comma(out: &mut [u8], at: usize, i: usize) -> usize
     if i == 0 {
         return at;
     }
-    put_byte(out, at, 44)
+    put_byte(out, at, COMMA)
 }
 
-// Whether the cell numbered i is the text.
-fn is_text(place: usize, i: usize) -> bool
-    ensures { result ≡ (eqb i place && not (eqb place 0)) }
-{
-    if place == 0 {
-        return false;
-    }
-    i == place
-}
-
-// The place after a cell that ends at a place.
-fn after_cell(part: &[u8], end: usize, twice: bool) -> usize
-    requires { end ≤ length part.now }
-    ensures fact_1 { Stepped twice part.now end result }
-    ensures fact_2 { result ≤ length part.now }
-{
-    if part.len() <= end {
-        return end;
-    }
-    after_byte(part, end, twice)
-}
-
-// So many fields of a row that can be cut.
-fn put_row(
-    out: &mut [u8],
-    at: usize,
-    part: &[u8],
-    sep: u8,
-    twice: bool,
-    count: usize,
-    place: usize,
-) -> usize
-    requires fact_1 { at < 2 ^ 38 }
-    requires fact_2 { length part.now ≤ 268435456 }
-    requires fact_3 { Fielded count (cut sep (seen twice part.now)) }
-    ensures { Written out.old at (fields_of count place (cut sep (seen twice part.now))) out.new result }
-{
-    let mut next = at;
-    let mut p = 0;
-    let mut i = 0;
-    while i < count {
-        let start = put_comma(out, next, i);
-        let CellStep::Found(cell) = cell_at(part, p, sep, twice) else {
-            return start;
+impl LinePart<'_> {
+    // Looks through a row, where it can be cut.
+    fn look(self) -> Option<Row>
+        ensures { RowIs self.entry.sep self.entry.twice self.entry.bytes.now result }
+    {
+        let mut row = Row {
+            cells: 0,
+            kept: 0,
+            place: None,
         };
-        let from = cell.from;
-        let to = cell.to;
-        let end = cell.next;
-        let quoted = cell.quoted;
-        let text = is_text(place, i);
-        next = put_cell(out, start, &part[from..to], twice, quoted, text);
-        p = after_cell(part, end, twice);
-        i = i + 1;
-    }
-    next
-}
-
-// Whether a quote is among the bytes.
-fn has_quote(part: &[u8]) -> bool
-    ensures { result ≡ has 34 part.now }
-{
-    let mut p = 0;
-    while p < part.len() {
-        let c = part[p];
-        if c == 34 {
-            return true;
-        }
-        p = p + 1;
-    }
-    false
-}
-
-// Whether a row stands in its line as it is: commas part its cells, none is a text, none at the end is
-// empty, and there is no quote in it. So are most rows, and such a row need not be written cell by cell.
-// The quote is looked for last, since only that takes a walk through the row.
-fn stands(part: &[u8], sep: u8, row: Row) -> bool
-    ensures { result ≡ (eqb sep 44 && (eqb row.place 0 && (eqb row.kept row.cells && not (has 34 part.now)))) }
-{
-    if sep != 44 {
-        return false;
-    }
-    if row.place != 0 {
-        return false;
-    }
-    if row.kept != row.cells {
-        return false;
-    }
-    !has_quote(part)
-}
-
-// A part of a line, cut into cells, as a line of a text.
-pub fn put_part(out: &mut [u8], at: usize, part: &[u8], sep: u8, twice: bool) -> usize
-    requires fact_1 { at < 2 ^ 38 }
-    requires fact_2 { length part.now ≤ 268435456 }
-    ensures { Written out.old at (line_by row_line sep (seen twice part.now)) out.new result }
-{
-    if is_remark_line(part, sep, twice) {
-        return put_seen(out, at, part, twice, false);
-    }
-    match look(part, sep, twice) {
-        RowStep::Uncut => put_byte(out, at, 34),
-        RowStep::Cells(row) => {
-            if stands(part, sep, row) {
-                return put_bytes(out, at, part);
+        let mut at = 0;
+        // each cell tells where the next begins, and the first that cannot be cut ends it: no iterator is plainer
+        loop {
+            let cell = self.cell_at(at)?;
+            row = row.with_cell(self.content(cell));
+            if self.bytes.len() <= cell.next {
+                return Some(row);
             }
-            let count = field_count(row);
-            let place = row.place;
-            put_row(out, at, part, sep, twice, count, place)
+            at = after_byte(self.bytes, cell.next, self.twice);
         }
+    }
+
+    // The place after a cell that ends at a place.
+    fn after_cell(self, end: usize) -> usize
+        requires { end ≤ length self.bytes.now }
+        ensures fact_1 { Stepped self.entry.twice self.entry.bytes.now end result }
+        ensures fact_2 { result ≤ length self.entry.bytes.now }
+    {
+        if self.bytes.len() <= end {
+            return end;
+        }
+        after_byte(self.bytes, end, self.twice)
+    }
+
+    // So many fields of a row that can be cut.
+    fn put_row(self, out: &mut [u8], at: usize, count: usize, place: Option<usize>) -> usize
+        requires fact_1 { at < 2 ^ 38 }
+        requires fact_2 { Fielded count (cut self.sep (seen self.twice self.bytes.now)) }
+        ensures { Written out.old at (fields_of count place (cut self.entry.sep (seen self.entry.twice self.entry.bytes.now))) out.new result }
+    {
+        let mut next = at;
+        let mut p = 0;
+        for i in 0..count {
+            let start = put_comma(out, next, i);
+            let Some(cell) = self.cell_at(p) else {
+                return start;
+            };
+            let text = place == Some(i);
+            next = self.content(cell).put(out, start, text);
+            p = self.after_cell(cell.next);
+        }
+        next
+    }
+
+    // Whether a row stands in its line as it is: commas part its cells, none is a text, none at the end is
+    // empty, and there is no quote in it. So are most rows, and such a row need not be written cell by cell.
+    // The quote is looked for last, since only that takes a walk through the row.
+    fn stands(self, row: Row) -> bool
+        ensures { result ≡ (eqb self.entry.sep 44 && (is_none row.place && (eqb row.kept row.cells && not (has 34 self.entry.bytes.now)))) }
+    {
+        self.sep == COMMA
+            && row.place.is_none()
+            && row.kept == row.cells
+            && !self.bytes.contains(&b'"')
+    }
+
+    // A part of a line, cut into cells, as a line of a text.
+    pub fn put(self, out: &mut [u8], at: usize) -> usize
+        requires { at < 2 ^ 38 }
+        ensures { Written out.old at (line_by row_line self.entry.sep (seen self.entry.twice self.entry.bytes.now)) out.new result }
+    {
+        if self.is_remark() {
+            return put_seen(out, at, self.bytes, self.twice, false);
+        }
+        let Some(row) = self.look() else {
+            return put_byte(out, at, b'"');
+        };
+        if self.stands(row) {
+            return put_bytes(out, at, self.bytes);
+        }
+        self.put_row(out, at, row.field_count(), row.place)
     }
 }

@@ -1,5 +1,5 @@
 -- A cell of a line as it is found, and what it is in the line.
-use Rattle.std.specs.Prelude.{◌≡◌, ℕ, ◌<◌, ◌≤◌, Bool, true, false, ◌&&◌, not, List, [], ◌∷◌, length, get_or, drop, eqb}
+use Rattle.std.specs.Prelude.{◌≡◌, ℕ, ◌<◌, ◌≤◌, Bool, true, false, ◌&&◌, not, List, [], ◌∷◌, length, get_or, drop, eqb, Option, Some, None}
 use Rattle.event.specs.Choice.{pick}
 use Rattle.midicsv.specs.Result.{bad}
 use Rattle.sheet_table.specs.Cut.{has, blank_beside, skip_beside, begins, quotes, closed, cut_from, cut}
@@ -7,8 +7,6 @@ use Rattle.sheet_table.specs.Code.Cells.{cons_cell, cells_after}
 use Rattle.sheet_table.specs.Table.{doubled}
 use Rattle.sheet.specs.Code.Seen.{singled, seen, slice, Reached}
 use Rattle.sheet.specs.declared.Cell.{Cell}
-use Rattle.sheet.specs.declared.CellStep.{CellStep}
-use Rattle.sheet.specs.declared.CellStep.TheVariants.{Found, Open}
 
 -- the content of a cell by its bytes: in quotes two quotes are one
 unfoldable pub content_of : Bool → List ℕ → List ℕ
@@ -27,9 +25,9 @@ pub record CellAt (sep : ℕ) (twice : Bool) (l : List ℕ) (at : ℕ) (c : Cell
   pub inside : c.next ≤ length l
 
 -- the first cell from a place on; or the line cannot be cut there
-unfoldable pub CellIs : ℕ → Bool → List ℕ → ℕ → CellStep → Type 0
-CellIs sep twice l at (Found c) = CellAt sep twice l at c
-CellIs sep twice l at Open = cut sep (seen twice (drop at l)) ≡ bad 22
+unfoldable pub CellIs : ℕ → Bool → List ℕ → ℕ → Option Cell → Type 0
+CellIs sep twice l at (Some c) = CellAt sep twice l at c
+CellIs sep twice l at None = cut sep (seen twice (drop at l)) ≡ bad 22
 
 -- ---- the parts of a cell
 
@@ -58,9 +56,9 @@ pub record ClosedTo (sep : ℕ) (l : List ℕ) (at p : ℕ) : Type 0 where
   pub inside : p ≤ length l
 
 -- the cell whose opening quote stands just before a place, from wherever it begins
-unfoldable pub QuotedIs : ℕ → Bool → List ℕ → ℕ → CellStep → Type 0
+unfoldable pub QuotedIs : ℕ → Bool → List ℕ → ℕ → Option Cell → Type 0
 QuotedIs sep twice l at r = (a : ℕ) → a ≤ at → cut sep (seen twice (drop a l)) ≡ cut_from sep (seen twice (drop at l)) quotes → CellIs sep twice l a r
 
 -- the cell from a place on, where no quote opens it
-unfoldable pub BareIs : ℕ → Bool → List ℕ → ℕ → CellStep → Type 0
+unfoldable pub BareIs : ℕ → Bool → List ℕ → ℕ → Option Cell → Type 0
 BareIs sep twice l at r = begins 34 (skip_beside sep (seen twice (drop at l))) ≡ false → CellIs sep twice l at r

@@ -1,5 +1,5 @@
 -- What the inner functions over the cells of a row say.
-use Rattle.std.specs.Prelude.{◌≡◌, ℕ, suc, ◌+◌, ◌≤◌, Bool, false, List, [], ◌∷◌, length, eqb}
+use Rattle.std.specs.Prelude.{◌≡◌, ℕ, suc, ◌+◌, ◌≤◌, Bool, false, List, [], ◌∷◌, length, eqb, Option, Some, None}
 use Rattle.event.specs.Choice.{pick}
 use Rattle.midicsv.specs.ReadField.{read_field}
 use Rattle.midicsv.specs.Result.{Result, good, bad}
@@ -7,8 +7,7 @@ use Rattle.sheet_table.specs.Table.{is_empty, all_empty, name_in, text_of_name, 
 use Rattle.sheet.specs.Code.Seen.{Passed}
 use Rattle.sheet.specs.Code.Row.{place_as, fields_in}
 use Rattle.sheet.specs.declared.Row.{Row}
-use Rattle.sheet.specs.declared.LoneStep.{LoneStep}
-use Rattle.sheet.specs.declared.LoneStep.TheVariants.{Lone, Several}
+use Rattle.sheet.specs.declared.Cell.{Cell}
 
 -- what is known of a row whose cells were counted as r, after the cell c
 pub record Grown (r : Row) (c : List ℕ) (s : Row) : Type 0 where
@@ -26,7 +25,7 @@ unfoldable pub comma : ℕ → List ℕ
 comma i = pick (eqb i 0) [] (44 ∷ [])
 
 -- so many fields of a row, as a line
-unfoldable pub fields_of : ℕ → ℕ → Result (List (List ℕ)) → List ℕ
+unfoldable pub fields_of : ℕ → Option ℕ → Result (List (List ℕ)) → List ℕ
 fields_of count place (good cs) = joined (fields_in count place 0 cs)
 fields_of count place (bad n) = []
 
@@ -41,6 +40,6 @@ all_empty_in (good cs) = all_empty cs
 all_empty_in (bad n) = false
 
 -- the one cell stands in the line
-unfoldable pub LoneWithin : List ℕ → LoneStep → Type 0
-LoneWithin l (Lone c) = (c.from ≤ c.to) × (c.to ≤ length l)
-LoneWithin l Several = Unit {0}
+unfoldable pub LoneWithin : List ℕ → Option Cell → Type 0
+LoneWithin l (Some c) = (c.from ≤ c.to) × (c.to ≤ length l)
+LoneWithin l None = Unit {0}

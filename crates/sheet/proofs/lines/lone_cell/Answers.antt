@@ -1,33 +1,31 @@
-use Rattle.sheet.specs.Code.Walk.{LoneWithin}
+use mathlib.Core.Path.{sym}
+use native.Mathlib.Omega.{arith}
+use Rattle.sheet.proofs.WalkLaws.{cell_found, cell_open}
 use Rattle.sheet.specs.Code.Seen.{seen}
 use Rattle.event.specs.Choice.{pick}
-use Rattle.sheet.proofs.WalkLaws.{cell_found, cell_open}
 use Rattle.sheet.proofs.LoneLaws.{remark_several, open_several, cells_several, lone_among, lone_last}
-use mathlib.Core.Path.{sym, ◌∙◌}
+use Rattle.sheet.proofs.lines.lone_cell.Goals.{then-line-cell-via-then-line-cell, then-line-cell-via-else-line-cell+then-are_empty}
 use Rattle.sheet.proofs.lines.lone_cell.Goals as goal
 
-pub returns-then-is_remark_line : goal.returns-then-is_remark_line
-unfolding LoneWithin seen pick
-returns-then-is_remark_line c = record { fact_1 = remark_several c.args.sep c.args.line.now (sym c.is_remark_line.ensures ∙ c.if-is_remark_line.true); fact_2 = tt }
+pub returns-then-is_remark : goal.returns-then-is_remark
+unfolding seen pick
+returns-then-is_remark c = remark_several _ _ (sym (rw c.requires at c.if-is_remark.ensures))
 
-pub returns-in_default : goal.returns-in_default
-unfolding LoneWithin seen pick
-returns-in_default c = record { fact_1 = open_several c.args.sep c.args.line.now (cell_open _ _ _ _ _ c.cell_at.ensures c.in_default.is); fact_2 = tt }
+pub returns-in_err-cell : goal.returns-in_err-cell
+returns-in_err-cell c = rw c.from_residual.ensures (open_several _ _ (cell_open _ _ _ _ (rw c.requires at c.in_err-cell.ensures)))
 
-pub returns-then-line-next : goal.returns-then-line-next
-unfolding LoneWithin seen pick
-returns-then-line-next c =
-    let k = cell_found _ _ _ _ _ c.cell_at.ensures _ c.in-Found.is in
-    let h = lone_last c.args.sep c.args.line.now k (sym c.is_remark_line.ensures ∙ c.if-is_remark_line.false) c.if-line-next.true in record { fact_1 = h.0; fact_2 = h.1 }
+pub are_empty-requires : goal.are_empty-requires
+are_empty-requires c = record { fact_1 = omega arith; fact_2 = c.requires }
 
-pub returns-then-are_empty : goal.returns-then-are_empty
-unfolding LoneWithin seen pick
-returns-then-are_empty c =
-    let k = cell_found _ _ _ _ _ c.cell_at.ensures _ c.in-Found.is in
-    let h = lone_among c.args.sep c.args.line.now k (sym c.is_remark_line.ensures ∙ c.if-is_remark_line.false) c.if-line-next.false (sym c.are_empty.ensures ∙ c.if-are_empty.true) in record { fact_1 = h.0; fact_2 = h.1 }
+pub returns-then-line-cell : goal.returns-then-line-cell
+unfolding seen pick
+returns-then-line-cell c =
+    let k = cell_found _ _ _ _ (rw c.requires at c.in_ok-cell.ensures) in
+    let n = sym (rw c.requires at c.if-is_remark.ensures) in
+    elim c.then-line-cell.branch [
+      | then-line-cell-via-then-line-cell w ↦ lone_last _ _ k n w.if-line-cell.true
+      | then-line-cell-via-else-line-cell+then-are_empty w ↦ lone_among _ _ k n w.if-line-cell.false (sym w.if-are_empty.ensures)
+    ]
 
 pub returns : goal.returns
-unfolding LoneWithin seen pick
-returns c =
-    let k = cell_found _ _ _ _ _ c.cell_at.ensures _ c.in-Found.is in
-    record { fact_1 = cells_several c.args.sep c.args.line.now k c.if-line-next.false (sym c.are_empty.ensures ∙ c.if-are_empty.false); fact_2 = tt }
+returns c = cells_several _ _ (cell_found _ _ _ _ (rw c.requires at c.in_ok-cell.ensures)) c.if-line-cell.false (sym c.if-are_empty.ensures)

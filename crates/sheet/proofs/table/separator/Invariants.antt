@@ -6,7 +6,7 @@ use mathlib.Core.Path.{◌≡◌}
 use Rattle.sheet.proofs.table.separator.Given as goal
 
 abbrev pub invariant-loop-at : goal.invariant-loop-at
-invariant-loop-at l = sep_of (lines_of (drop l.at l.saved)) ≡ sep_of (lines_of (drop l.start l.saved))
+invariant-loop-at l = sep_of (lines_of (drop l.at l.table)) ≡ sep_of (lines_of l.table)
 
 abbrev pub decreases-loop-at : goal.decreases-loop-at
-decreases-loop-at l = length l.saved - l.at
+decreases-loop-at l = length l.table - l.at

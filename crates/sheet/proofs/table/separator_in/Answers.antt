@@ -1,22 +1,34 @@
+use mathlib.Core.Path.{◌≡◌, refl, ◌∙◌}
+use mathlib.Core.Bool.{true, false}
+use Rattle.sheet.proofs.FieldLaws.{has_any}
 use Rattle.event.specs.Choice.{pick}
-use Rattle.sheet.proofs.SeparatorLaws.{sep_first, sep_byte_lem, sep_comma, sep_end}
-use borrow.Author.Tests.{eq-eqb, ne_eqb}
-use mathlib.Core.Path.{◌∙◌}
+use Rattle.sheet_table.specs.Cut.{has}
+use Rattle.sheet_table.specs.Table.{sep_in}
 use Rattle.sheet.proofs.table.separator_in.Goals as goal
 
-pub loop-i-init : goal.loop-i-init
-loop-i-init c = sep_first c.args.line.now
+pub returns-then-contains : goal.returns-then-contains
+unfolding sep_in pick
+returns-then-contains c = let a : true ≡ has 44 c.args.line.now = c.if-contains.ensures.value ∙ has_any 44 _ in rw (← a) refl
 
-pub returns-then-c-eq-COMMA : goal.returns-then-c-eq-COMMA
-returns-then-c-eq-COMMA c = sep_comma c.args.line.now c.loop-i.found c.loop-i.i c.loop-i-test.true c.if-c-eq-COMMA.true ∙ c.loop-i.invariant
+pub returns-then-contains-2 : goal.returns-then-contains-2
+unfolding sep_in pick
+returns-then-contains-2 c =
+    let a : false ≡ has 44 c.args.line.now = c.if-contains.ensures.value ∙ has_any 44 _ in
+    let b : true ≡ has 59 c.args.line.now = c.if-contains-2.ensures.value ∙ has_any 59 _ in
+    rw (← a, ← b) refl
 
-pub loop-i-preserved : goal.loop-i-preserved
-loop-i-preserved c = rw c.noted-found.ensures (sep_byte_lem c.args.line.now c.loop-i.found c.loop-i.i c.loop-i-test.true c.if-c-eq-COMMA.false ∙ c.loop-i.invariant)
+pub returns-then-contains-3 : goal.returns-then-contains-3
+unfolding sep_in pick
+returns-then-contains-3 c =
+    let a : false ≡ has 44 c.args.line.now = c.if-contains.ensures.value ∙ has_any 44 _ in
+    let b : false ≡ has 59 c.args.line.now = c.if-contains-2.ensures.value ∙ has_any 59 _ in
+    let d : true ≡ has 9 c.args.line.now = c.if-contains-3.ensures.value ∙ has_any 9 _ in
+    rw (← a, ← b, ← d) refl
 
-pub returns-then-found-eq0 : goal.returns-then-found-eq0
-unfolding pick
-returns-then-found-eq0 c = rw (eq-eqb _ 0 c.if-found-eq0.true) at (sep_end c.args.line.now c.loop-i.found c.loop-i.i c.loop-i-test.false ∙ c.loop-i.invariant)
-
-pub returns : goal.returns
-unfolding pick
-returns c = rw (ne_eqb _ 0 c.if-found-eq0.false) at (sep_end c.args.line.now c.loop-i.found c.loop-i.i c.loop-i-test.false ∙ c.loop-i.invariant)
+pub returns-else-contains-3 : goal.returns-else-contains-3
+unfolding sep_in pick
+returns-else-contains-3 c =
+    let a : false ≡ has 44 c.args.line.now = c.if-contains.ensures.value ∙ has_any 44 _ in
+    let b : false ≡ has 59 c.args.line.now = c.if-contains-2.ensures.value ∙ has_any 59 _ in
+    let d : false ≡ has 9 c.args.line.now = c.if-contains-3.ensures.value ∙ has_any 9 _ in
+    rw (← a, ← b, ← d) refl
