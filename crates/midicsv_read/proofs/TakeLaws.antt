@@ -4,7 +4,8 @@ use Prim.Native.Nat.{ℕ, suc, ◌+◌, ◌<◌, ◌≤◌, ◌^◌}
 use mathlib.Core.Bool.{Bool, true, false, ◌&&◌}
 use mathlib.Core.List.{List, [], ◌++◌, append-nil}
 use native.Mathlib.Omega.{arith}
-use lib.ListN.{length, length-append}
+use lib.ListN.{length, get_or, length-append}
+use Rattle.std.proofs.lemmas.List.{get_or-take}
 use lib.Dec.{eqb}
 use borrow.Author.Tests.{lt-ltb, le-ltb, eq-eqb, ne_eqb}
 use Rattle.event.specs.Bytes.{big_endian}
@@ -60,12 +61,13 @@ module _ (m : Manner) (st : Progress) (out : List ℕ) (row : Row) where
   header_unmarked new w (inside h ts es prev) old a = refl
   header_unmarked new w (finished p) old a = refl
 
-  pub header_moved : (new : List ℕ) (at : ℕ) → st.phase ≡ 0 → marked 0 ≡ true → row.b ≤ 65535 → Written out st.at (lay_header row.a row.b (division_of row.c) [] []) new at
-      → Follows m st out (header_step row) (Moved (record { phase = 1; count = row.b; tracks = 0; time = record { 0 = 0 }; force = 0; size = 0; at = at })) new
+  pub header_moved : (new : List ℕ) (at : ℕ) → st.phase ≡ 0 → marked 0 ≡ true → get_or row.columns 1 0 ≤ 65535
+      → Written out st.at (lay_header (get_or row.columns 0 0) (get_or row.columns 1 0) (division_of (get_or row.columns 2 0)) [] []) new at
+      → Follows m st out (header_step row) (Moved (record { phase = 1; count = get_or row.columns 1 0; tracks = 0; time = record { 0 = 0 }; force = 0; size = 0; at = at })) new
   unfolding step_on take_header test bytes_of between_bytes tracks_bytes lay_tracks
   header_moved new at q k n w first old a = (
-    between (record { format = row.a; count = row.b; division = division_of row.c }) [],
-    rw k,
+    between (record { format = get_or row.columns 0 0; count = get_or row.columns 1 0; division = division_of (get_or row.columns 2 0) }) [],
+    rw (k, get_or-take 3 row.columns 0 0 (omega arith), get_or-take 3 row.columns 1 0 (omega arith), get_or-take 3 row.columns 2 0 (omega arith)),
     record {
       numbers = record { phase = refl; count = refl; tracks = refl; most = omega arith; few = n };
       few = omega arith;

@@ -2,14 +2,16 @@
 use mathlib.Core.Path.{◌≡◌, sym, ap, subst, ◌∙◌}
 use Prim.Native.Nat.{ℕ, ◌≤◌}
 use mathlib.Core.Bool.{true, false}
-use mathlib.Core.List.{List}
+use mathlib.Core.List.{List, [], ◌∷◌}
+use Rattle.std.proofs.lemmas.List.{get_or-take}
+use Rattle.midicsv.proofs.KindAcceptedLaws.{nth_in}
 use native.Mathlib.Omega.{arith}
-use lib.ListN.{length}
+use lib.ListN.{length, get_or}
 use Rattle.event.specs.Bytes.{Bytes}
 use Rattle.event.specs.Manner.{Manner}
 use Rattle.event.proofs.ChoiceLaws.{pick_true, pick_false}
 use Rattle.smf.specs.Division.{division_ok}
-use Rattle.midicsv.specs.Table.{shape}
+use Rattle.midicsv.specs.Table.{range, division, shape}
 use Rattle.midicsv.specs.Record.{Record}
 use Rattle.midicsv.specs.Result.{Result, good, bad, next}
 use Rattle.midicsv.specs.ReadRecord.{read_line}
@@ -22,8 +24,9 @@ use Rattle.midicsv_record.specs.Row.{name_at, body_in, columns_in, record_in, li
 use Rattle.midicsv_read.specs.Progress.{Answers, Follows, Near, header_step, start_step, end_step, row_step, line_step, RowOf}
 use Rattle.midicsv_record.specs.declared.Row.{Row}
 use Rattle.midicsv_read.specs.declared.Progress.{Progress}
-use Rattle.midicsv_record.specs.declared.LineStep.{LineStep}
-use Rattle.midicsv_record.specs.declared.LineStep.TheVariants.{Wrong, Parsed}
+use Rattle.std.specs.Prelude.{Ok, Err, Result as CodeResult}
+use Rattle.event.specs.Refusal.{number_of}
+use Rattle.event.specs.declared.refusal.Refusal.{Refusal}
 use Rattle.midicsv_read.specs.declared.Step.{Step}
 use Rattle.midicsv_read.specs.declared.Step.TheVariants.{Moved, Bad}
 
@@ -60,24 +63,26 @@ module _ (m : Manner) (st : Progress) (out : List ℕ) (l : List ℕ) (row : Row
   row_end_lem e f = follows_same m st out (end_step row) (row_step l row) r new (λ s. end_named s e) f
 
 -- the number of tracks is in its range, and the division's bits are those of a division
-pub header_numbers : (l : List ℕ) (row : Row) → Bytes l → RowOf l row → row.name ≡ 0 → (row.b ≤ 65535) × (division_ok row.c ≡ true)
+pub header_numbers : (l : List ℕ) (row : Row) → Bytes l → RowOf l row → row.name ≡ 0 → (get_or row.columns 1 0 ≤ 65535) × (division_ok (get_or row.columns 2 0) ≡ true)
 unfolding shape InColumns InColumn
 header_numbers l row b k e =
     let c : InColumns (shape (name_at row.name)).columns (columns_in row) = (line_given l (record_in l row) b k.reads).columns in
     let d = rw e at c in
-    (omega (arith, d.1.0.1), d.1.1.0)
+    let count = rw (get_or-take 3 row.columns 1 0 (omega arith)) at (nth_in (range 0 2 ∷ range 1 65535 ∷ division ∷ []) _ 1 d (omega arith)) in
+    let bits = rw (get_or-take 3 row.columns 2 0 (omega arith)) at (nth_in (range 0 2 ∷ range 1 65535 ∷ division ∷ []) _ 2 d (omega arith)) in
+    (omega (arith, count), bits)
 
 -- ---- a line and its row
 
-pub row_of_lem : (l : List ℕ) (x : LineStep) (row : Row) → line_as l x ≡ read_line l → Placed l x → x ≡ Parsed row → length l ≤ text_limit → RowOf l row
+pub row_of_lem : (l : List ℕ) (x : CodeResult Row Refusal) (row : Row) → line_as l x ≡ read_line l → Placed l x → x ≡ Ok row → length l ≤ text_limit → RowOf l row
 unfolding line_as Placed
 row_of_lem l x row e p q h =
-    let p1 : Placed l (Parsed row) = subst (Placed l) q p in
+    let p1 : Placed l (Ok row) = subst (Placed l) q p in
     record { reads = sym e ∙ ap (line_as l) q; name = p1.0; start = p1.1; len = p1.2; short = h }
 
-pub wrong_of : (l : List ℕ) (x : LineStep) (n : ℕ) → line_as l x ≡ read_line l → x ≡ Wrong n → read_line l ≡ bad n
+pub wrong_of : (l : List ℕ) (x : CodeResult Row Refusal) (r : Refusal) → line_as l x ≡ read_line l → x ≡ Err r → read_line l ≡ bad (number_of r)
 unfolding line_as
-wrong_of l x n e q = sym e ∙ ap (line_as l) q
+wrong_of l x r e q = sym e ∙ ap (line_as l) q
 
 -- b is the line l without its CR
 module _ (m : Manner) (st : Progress) (out l b : List ℕ) (cut : b ≡ trimmed l) where

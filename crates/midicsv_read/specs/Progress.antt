@@ -1,5 +1,5 @@
 -- Where a pass over the records stands, beside the state of the definition: its numbers, and the bytes that it has written.
-use Rattle.std.specs.Prelude.{◌≡◌, ℕ, ◌+◌, ◌-◌, ◌<◌, ◌≤◌, ◌^◌, List, [], ◌∷◌, ◌++◌, length}
+use Rattle.std.specs.Prelude.{◌≡◌, ℕ, ◌+◌, ◌-◌, ◌<◌, ◌≤◌, ◌^◌, List, [], ◌∷◌, ◌++◌, length, take}
 use Rattle.event.specs.Bytes.{big_endian}
 use Rattle.event.specs.Event.{Event}
 use Rattle.event.specs.Frame.{frame, after, no_status}
@@ -124,7 +124,7 @@ Near n (Bad k) = Unit {0}
 
 -- what the definition does with a Header of the row's numbers
 abbrev pub header_step : Row → State → Result State
-header_step r = λ s. step_on s header r.track r.time (plain (r.a ∷ r.b ∷ r.c ∷ []))
+header_step r = λ s. step_on s header r.track r.time (plain (take 3 r.columns))
 
 -- with a Start_track
 abbrev pub start_step : Row → State → Result State

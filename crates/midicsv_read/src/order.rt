@@ -1,6 +1,6 @@
 // Records in their order: each is taken where it may stand, and its bytes are written. The length of
 // a track is known at its End_track, and is then written over the zero that stood for it.
-ghost use Rattle.std.specs.Prelude.{◌≡◌, true, ◌&&◌, [], ◌+◌, ◌≤◌, ◌<◌, ◌^◌, length, eqb};
+ghost use Rattle.std.specs.Prelude.{◌≡◌, true, ◌&&◌, [], ◌+◌, ◌≤◌, ◌<◌, ◌^◌, length, slice_index, eqb};
 ghost use Rattle.event_write.specs.Written.{Written};
 ghost use Rattle.event_write.specs.Head.{manner_of};
 ghost use Rattle.smf.specs.Layout.{lay_header};
@@ -11,8 +11,8 @@ use super::write_row::{put_row, row_kind, status_after};
 use super::{Progress, Step};
 use event::{Delta, Since, Time};
 use event_write::bytes::{put_four, put_two};
+use midicsv_record::Row;
 use midicsv_record::line::read_line;
-use midicsv_record::{LineStep, Row};
 use midicsv_scan::frame::{passed_over, trim};
 
 // The longest step between two events.
@@ -44,8 +44,8 @@ fn put_header(out: &mut [u8], at: usize, format: u32, count: u32, bits: u32) -> 
 // A Header stands first.
 fn take_header(out: &mut [u8], st: Progress, row: Row) -> Step
     requires fact_1 { Sized st }
-    requires fact_2 { row.b ≤ 65535 }
-    requires fact_3 { division_ok row.c ≡ true }
+    requires fact_2 { slice_index row.columns 1 ≤ 65535 }
+    requires fact_3 { division_ok (slice_index row.columns 2) ≡ true }
     ensures fact_1 { FollowsEither st out.old (header_step row) result out.new }
     ensures fact_2 { Near (st.at + 15) result }
 {
@@ -55,10 +55,11 @@ fn take_header(out: &mut [u8], st: Progress, row: Row) -> Step
     if !is_marked(row, 0) {
         return Step::Bad { number: 26 };
     }
-    let at = put_header(out, st.at, row.a, row.b, row.c);
+    let [format, count, bits, ..] = row.columns;
+    let at = put_header(out, st.at, format, count, bits);
     Step::Moved(Progress {
         phase: 1,
-        count: row.b,
+        count,
         tracks: 0,
         time: Time(0),
         force: 0,
@@ -209,7 +210,9 @@ pub fn take_line(out: &mut [u8], st: Progress, line: &[u8], short: bool) -> Step
         return Step::Moved(st);
     }
     match read_line(body) {
-        LineStep::Wrong { number } => Step::Bad { number },
-        LineStep::Parsed(row) => take_row(out, st, row, body, short),
+        Err(refusal) => Step::Bad {
+            number: refusal.number(),
+        },
+        Ok(row) => take_row(out, st, row, body, short),
     }
 }

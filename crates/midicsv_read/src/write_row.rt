@@ -1,5 +1,5 @@
 // A row's event written: its head by the event side, its Text or Data from the line.
-ghost use Rattle.std.specs.Prelude.{◌≡◌, ◌-◌, ◌≤◌, ◌<◌, ◌^◌, length, drop};
+ghost use Rattle.std.specs.Prelude.{◌≡◌, ◌-◌, ◌%◌, ◌≤◌, ◌<◌, ◌^◌, length, drop};
 ghost use Rattle.event_write.specs.Written.{Written};
 ghost use Rattle.event_write.specs.Head.{manner_of};
 ghost use Rattle.midicsv.specs.ReadField.{plain};
@@ -17,14 +17,22 @@ use midicsv_record::{Row, TextState, TextStep};
 use midicsv_scan::FieldStep;
 use midicsv_scan::field::field_at;
 
+// A number as a byte.
+fn byte(n: u32) -> u8
+    ensures { result ≡ n % 256 }
+{
+    (n % 256) as u8
+}
+
 // Header, Start_track, End_of_file, which are no events, and the events of three data bytes.
 fn triple_kind(row: Row, len: usize) -> EventKind
     requires { row.name < 7 }
     ensures { result ≡ row_kind row len }
 {
-    let channel = (row.a % 256) as u8;
-    let key = (row.b % 256) as u8;
-    let value = (row.c % 256) as u8;
+    let [channel, key, value, ..] = row.columns;
+    let channel = byte(channel);
+    let key = byte(key);
+    let value = byte(value);
     let name = row.name;
     match name {
         3 => EventKind::NoteOff {
@@ -57,24 +65,25 @@ fn short_kind(row: Row, len: usize) -> EventKind
     requires fact_2 { row.name < 13 }
     ensures { result ≡ row_kind row len }
 {
-    let channel = (row.a % 256) as u8;
-    let second = (row.b % 256) as u8;
-    let value = (row.b % 65536) as u16;
+    let [first, second, ..] = row.columns;
+    let channel = byte(first);
+    let value = byte(second);
+    let bend = (second % 65536) as u16;
     let start = row.start;
     let name = row.name;
     match name {
         7 => EventKind::Program {
             channel,
-            number: second,
+            number: value,
         },
-        8 => EventKind::ChannelAftertouch {
+        8 => EventKind::ChannelAftertouch { channel, value },
+        9 => EventKind::PitchBend {
             channel,
-            value: second,
+            value: bend,
         },
-        9 => EventKind::PitchBend { channel, value },
         10 => EventKind::SystemExclusive { start, len },
         11 => EventKind::SystemExclusivePacket { start, len },
-        _ => EventKind::SequenceNumber { number: row.a },
+        _ => EventKind::SequenceNumber { number: first },
     }
 }
 
@@ -83,24 +92,24 @@ fn meta_kind(row: Row, len: usize) -> EventKind
     requires { 20 ≤ row.name }
     ensures { result ≡ row_kind row len }
 {
-    let number = (row.a % 256) as u8;
-    let kind = number; // where it is the type of a meta without a name
-    let second = (row.b % 256) as u8;
-    let third = (row.c % 256) as u8;
-    let fourth = (row.d % 256) as u8;
-    let part = (row.e % 256) as u8;
+    let [first, second, third, fourth, fifth] = row.columns;
+    let number = byte(first);
+    let second = byte(second);
+    let third = byte(third);
+    let fourth = byte(fourth);
+    let fifth = byte(fifth);
     let start = row.start;
     let name = row.name;
     match name {
         20 => EventKind::ChannelPrefix { number },
         21 => EventKind::MidiPort { number },
-        23 => EventKind::Tempo { micros: row.a },
+        23 => EventKind::Tempo { micros: first },
         24 => EventKind::SmpteOffset {
             hour: number,
             minute: second,
             second: third,
             frame: fourth,
-            part,
+            part: fifth,
         },
         25 => EventKind::TimeSignature {
             numerator: number,
@@ -113,7 +122,11 @@ fn meta_kind(row: Row, len: usize) -> EventKind
             minor: second,
         },
         27 => EventKind::SequencerSpecific { start, len },
-        28 => EventKind::UnknownMeta { kind, start, len },
+        28 => EventKind::UnknownMeta {
+            kind: number,
+            start,
+            len,
+        },
         _ => EventKind::EndTrack,
     }
 }

@@ -26,12 +26,14 @@ use Rattle.midicsv_scan.specs.declared.FieldCount.TheVariants.{Count}
 use Rattle.midicsv_record.proofs.FieldInLaws.{field_in_lem}
 
 -- the Header alone asks for more
-pub together_cut : (n : RecordName) (a b c d e : ℕ) → together n (take (length (shape n).columns) (a ∷ b ∷ c ∷ d ∷ e ∷ [])) ≡ together n (a ∷ b ∷ c ∷ d ∷ e ∷ [])
+pub together_cut : (n : RecordName) (ns : List ℕ) → together n (take (length (shape n).columns) ns) ≡ together n ns
 unfolding together shape
-together_cut header a b c d e = refl
-together_cut start_track a b c d e = refl
-together_cut end_of_file a b c d e = refl
-together_cut (event g) a b c d e = refl
+together_cut header [] = refl
+together_cut header (a ∷ []) = refl
+together_cut header (a ∷ b ∷ ns) = refl
+together_cut start_track ns = refl
+together_cut end_of_file ns = refl
+together_cut (event g) ns = refl
 
 -- ---- a name without the Header's rule
 

@@ -1,5 +1,6 @@
 -- The record of a line from its parts, read in turn.
 use mathlib.Core.Path.{◌≡◌, refl}
+use Rattle.std.specs.Prelude.{Option}
 use Prim.Native.Nat.{ℕ}
 use mathlib.Core.Bool.{true, false}
 use mathlib.Core.List.{List, [], ◌∷◌}
@@ -15,7 +16,6 @@ use Rattle.midicsv_record.specs.Table.{columns_at, tail_at}
 use Rattle.midicsv_record.specs.InTurn.{field_after, fitting, column_after, columns_after, last_after, values_after, named_after, place_after}
 use Rattle.midicsv_record.specs.Column.{field_in, value_as}
 use Rattle.midicsv_record.specs.declared.Row.{Row}
-use Rattle.midicsv_record.specs.declared.ColumnStep.{ColumnStep}
 use Rattle.midicsv_record.proofs.InTurnLaws.{column_fits}
 use Rattle.midicsv_record.proofs.LineLaws.{together_cut}
 
@@ -33,19 +33,19 @@ module _ (track time n : ℕ) (r : List ℕ) where
 -- columns and tail that fit, of a row of the line l
 module _ (l : List ℕ) (row : Row) (r q : List ℕ) (e : ok (columns_in row) q ≡ columns_after (columns_at row.name) r)
     (f : ok (body_in (tail_at row.name) l row.start row.len) [] ≡ last_after (tail_at row.name) q) where
-  pub named_good : true ≡ together (name_at row.name) (row.a ∷ row.b ∷ row.c ∷ row.d ∷ row.e ∷ [])
+  pub named_good : true ≡ together (name_at row.name) row.columns
       → ok (record_in l row) [] ≡ named_after row.track row.time (name_at row.name) r
   unfolding named_after values_after and_then fitting with_values test
-  named_good t = rw (← e, ← f, together_cut (name_at row.name) row.a row.b row.c row.d row.e, ← t) refl
+  named_good t = rw (← e, ← f, together_cut (name_at row.name) row.columns, ← t) refl
 
-  pub named_apart : false ≡ together (name_at row.name) (row.a ∷ row.b ∷ row.c ∷ row.d ∷ row.e ∷ [])
+  pub named_apart : false ≡ together (name_at row.name) row.columns
       → refused 22 0 ≡ named_after row.track row.time (name_at row.name) r
   unfolding named_after values_after and_then fitting with_values test
-  named_apart t = rw (← e, ← f, together_cut (name_at row.name) row.a row.b row.c row.d row.e, ← t) refl
+  named_apart t = rw (← e, ← f, together_cut (name_at row.name) row.columns, ← t) refl
 
 -- ---- Track and Time
 
 -- the number that the code found in a field
-pub column_told : (c : Column) (l r : List ℕ) (f : FieldStep) (v w : ColumnStep) → v ≡ w → field_as l f ≡ field_after r → value_as v ≡ read_column c (field_in l f)
-    → fitting (value_as w) (drop (place_after f) l) ≡ column_after c r
-column_told c l r f v w t e z = rw (← t, z) (column_fits c l r f e)
+pub column_told : (c : Column) (l r : List ℕ) (f : FieldStep) (v : Option ℕ) → field_as l f ≡ field_after r → value_as v ≡ read_column c (field_in l f)
+    → fitting (value_as v) (drop (place_after f) l) ≡ column_after c r
+column_told c l r f v e z = rw z (column_fits c l r f e)

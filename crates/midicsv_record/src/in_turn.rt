@@ -6,7 +6,7 @@ ghost use Rattle.midicsv_record.specs.InTurn.{field_after, columns_after, place_
 
 use super::column::value_in;
 use super::table::{column_at, column_count};
-use super::{CellStep, ColumnStep, ColumnsStep};
+use super::{Cell, Columns};
 use midicsv_scan::FieldStep;
 use midicsv_scan::field::field_at;
 
@@ -35,46 +35,35 @@ pub fn place_after(f: FieldStep) -> usize
 }
 
 // The number of the column so numbered from 0, of the field after a comma; 0 past the last column, and then no field is read.
-fn column_after(line: &[u8], comma: usize, name: u8, i: usize) -> CellStep
+fn column_after(line: &[u8], comma: usize, name: u8, i: usize) -> Option<Cell>
     requires { name ≤ 28 }
     ensures { cell_as line.now result ≡ first_after (drop i (columns_at name)) (drop comma line.now) }
 {
     if column_count(name) <= i {
-        return CellStep::Cell(0, comma);
+        return Some(Cell {
+            value: 0,
+            next: comma,
+        });
     }
     let f = field_after(line, comma);
-    let ColumnStep::Value(value) = value_in(line, f, column_at(name, i)) else {
-        return CellStep::NoCell;
-    };
-    CellStep::Cell(value, place_after(f))
+    let value = value_in(line, f, column_at(name, i))?;
+    Some(Cell {
+        value,
+        next: place_after(f),
+    })
 }
 
 // The numbers of all columns, of the fields after a comma; no record has more than five.
-pub fn columns_after(line: &[u8], comma: usize, name: u8) -> ColumnsStep
+pub fn columns_after(line: &[u8], comma: usize, name: u8) -> Option<Columns>
     requires { name ≤ 28 }
     ensures { columns_as (columns_at name) line.now result ≡ columns_after (columns_at name) (drop comma line.now) }
 {
-    let CellStep::Cell(a, first) = column_after(line, comma, name, 0) else {
-        return ColumnsStep::Misfit;
-    };
-    let CellStep::Cell(b, second) = column_after(line, first, name, 1) else {
-        return ColumnsStep::Misfit;
-    };
-    let CellStep::Cell(c, third) = column_after(line, second, name, 2) else {
-        return ColumnsStep::Misfit;
-    };
-    let CellStep::Cell(d, fourth) = column_after(line, third, name, 3) else {
-        return ColumnsStep::Misfit;
-    };
-    let CellStep::Cell(e, next) = column_after(line, fourth, name, 4) else {
-        return ColumnsStep::Misfit;
-    };
-    ColumnsStep::Five {
-        a,
-        b,
-        c,
-        d,
-        e,
-        next,
+    let mut values = [0; 5];
+    let mut next = comma;
+    for (i, value) in values.iter_mut().enumerate() {
+        let cell = column_after(line, next, name, i)?;
+        *value = cell.value;
+        next = cell.next;
     }
+    Some(Columns { values, next })
 }

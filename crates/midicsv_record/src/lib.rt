@@ -19,19 +19,9 @@ pub struct Row {
     pub name: u8,
     pub track: u32,
     pub time: u32,
-    pub a: u32,
-    pub b: u32,
-    pub c: u32,
-    pub d: u32,
-    pub e: u32,
+    pub columns: [u32; 5],
     pub start: usize,
     pub len: usize,
-}
-
-#[derive(Clone, Copy)]
-pub enum LineStep {
-    Wrong { number: u8 },
-    Parsed(Row),
 }
 
 // A column of the table; NoColumn past the last of a name.
@@ -72,51 +62,23 @@ pub enum TextStep {
     Closed,
 }
 
-// The number of a field, or 25.
+// The number of a column, and the place after its field.
 #[derive(Clone, Copy)]
-pub enum ColumnStep {
-    Value(u32),
-    OutOfRange,
+struct Cell {
+    value: u32,
+    next: usize,
 }
 
-// The number of a column and the place after its field; or a fault.
+// The numbers of a record's columns, 0 past the last, and the place after their fields.
 #[derive(Clone, Copy)]
-enum CellStep {
-    Cell(u32, usize),
-    NoCell,
+pub struct Columns {
+    pub values: [u32; 5],
+    pub next: usize,
 }
 
-// The numbers of a record's columns, 0 past the last, and the place after their fields; or a fault.
+// Where the Text or the Data begin, and how many Data there are.
 #[derive(Clone, Copy)]
-pub enum ColumnsStep {
-    Five {
-        a: u32,
-        b: u32,
-        c: u32,
-        d: u32,
-        e: u32,
-        next: usize,
-    },
-    Misfit,
-}
-
-// That a line has as many fields as its name and its Length want; or 24 or 25.
-#[derive(Clone, Copy)]
-enum SizeStep {
-    Fits,
-    Off(u8),
-}
-
-// Where the Text or the Data begin, and how many Data there are; or a fault.
-#[derive(Clone, Copy)]
-pub enum TailStep {
-    Start { start: usize, len: usize },
-    Unfit,
-}
-
-// The record of a line, or that the line has a fault.
-#[derive(Clone, Copy)]
-enum RowStep {
-    Taken(Row),
-    Faulty,
+pub struct BodyPlace {
+    pub start: usize,
+    pub len: usize,
 }

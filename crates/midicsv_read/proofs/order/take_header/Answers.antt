@@ -1,4 +1,5 @@
 use mathlib.Core.List.{[]}
+use lib.ListN.{get_or}
 use Rattle.smf.specs.Division.{division_of}
 use Rattle.smf.proofs.FileLaws.{header_size}
 use Rattle.midicsv_read.proofs.TakeLaws.{header_phase, header_unmarked, header_moved}
@@ -16,4 +17,4 @@ returns-then-not-is_marked c = let a = c.args in
 pub returns : goal.returns
 returns c = let a = c.args in
     let w = c.put_header-at.ensures in
-    record { fact_1 = λ m. header_moved m a.st _ a.row _ _ c.if-st-ne0.false (sym c.is_marked.ensures ∙ c.if-not-is_marked.false) c.requires.fact_2 w; fact_2 = omega (arith, c.put_header-at.ensures.place, header_size a.row.a a.row.b (division_of a.row.c) [] []) }
+    record { fact_1 = λ m. header_moved m a.st _ a.row _ _ c.if-st-ne0.false (sym c.is_marked.ensures ∙ c.if-not-is_marked.false) c.requires.fact_2 w; fact_2 = omega (arith, c.put_header-at.ensures.place, header_size (get_or a.row.columns 0 0) (get_or a.row.columns 1 0) (division_of (get_or a.row.columns 2 0)) [] []) }

@@ -1,4 +1,5 @@
 use mathlib.Core.Path.{refl}
+use Rattle.std.specs.Prelude.{Some, None}
 use Prim.Native.Nat.{◌≤◌}
 use native.Mathlib.Omega.{arith}
 use lib.ListN.{length, drop, drop_of_length-le, length-drop}
@@ -15,12 +16,13 @@ returns-then-column_count-i c =
     let past : length (columns_at a.name) ≤ a.i = omega (arith, c.column_count.ensures, c.if-column_count-i.true) in
     rw (drop_of_length-le (columns_at a.name) past) refl
 
-pub returns-in_default : goal.returns-in_default
+pub returns-in_err-value : goal.returns-in_err-value
 unfolding cell_as fitting value_as
-returns-in_default c =
+returns-in_err-value c =
     let a = c.args in
     let cs = drop a.i (columns_at a.name) in
-    first_fits cs a.line.now (drop a.comma a.line.now) _ _ _ _ (omega (arith, length-drop a.i (columns_at a.name), c.column_count.ensures, c.if-column_count-i.false)) c.column_at.ensures c.field_after-f.ensures.fact_1 c.value_in.ensures c.in_default.is
+    rw c.from_residual.ensures
+    (first_fits cs a.line.now (drop a.comma a.line.now) _ _ None (omega (arith, length-drop a.i (columns_at a.name), c.column_count.ensures, c.if-column_count-i.false)) c.column_at.ensures c.field_after-f.ensures.fact_1 c.in_err-value.ensures)
 
 pub returns : goal.returns
 unfolding cell_as fitting value_as
@@ -28,4 +30,4 @@ returns c =
     let a = c.args in
     let cs = drop a.i (columns_at a.name) in
     rw c.place_after.ensures
-    (first_fits cs a.line.now (drop a.comma a.line.now) _ _ _ _ (omega (arith, length-drop a.i (columns_at a.name), c.column_count.ensures, c.if-column_count-i.false)) c.column_at.ensures c.field_after-f.ensures.fact_1 c.value_in.ensures c.in-Value.is)
+    (first_fits cs a.line.now (drop a.comma a.line.now) _ _ (Some c.in_ok-value.value) (omega (arith, length-drop a.i (columns_at a.name), c.column_count.ensures, c.if-column_count-i.false)) c.column_at.ensures c.field_after-f.ensures.fact_1 c.in_ok-value.ensures)

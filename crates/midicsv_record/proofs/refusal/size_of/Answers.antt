@@ -32,9 +32,9 @@ pub overflow_add-wanted : goal.overflow_add-wanted
 unfolding tail_as size_as value_as
 overflow_add-wanted c = record { fits = omega (arith, c.column_count-k.ensures, few_columns (name_at c.args.name)) }
 
-pub overflow_add-wanted-in-Value : goal.overflow_add-wanted-in-Value
+pub overflow_add-wanted-in-Sized : goal.overflow_add-wanted-in-Sized
 unfolding tail_as size_as value_as
-overflow_add-wanted-in-Value c = record { fits = omega (arith, c.column_count-k.ensures, few_columns (name_at c.args.name)) }
+overflow_add-wanted-in-Sized c = record { fits = omega (arith, c.column_count-k.ensures, few_columns (name_at c.args.name)) }
 
 pub returns-in-NoTail : goal.returns-in-NoTail
 unfolding tail_as size_as value_as
@@ -50,24 +50,24 @@ returns-in-OneText c =
     let e : tail_at a.name ≡ one_text = sym c.tail_kind.ensures ∙ ap tail_as c.in-OneText.is in
     (rw c.column_count-k.ensures at c.size_step-in-OneText.ensures) ∙ size_text a.line.now a.count a.name c.requires.fact_2 e
 
-pub returns-in-Value : goal.returns-in-Value
+pub returns-in-Some : goal.returns-in-Some
 unfolding tail_as size_as value_as
-returns-in-Value c =
+returns-in-Some c =
     let a = c.args in
     let l = a.line.now in
     let f = c.requires.fact_2 in
     let e : tail_at a.name ≡ sized = sym c.tail_kind.ensures ∙ ap tail_as c.in-Sized.is in
     let h : 3 + length (columns_at a.name) < a.count = rw c.column_count-k.ensures at c.if-count-k.false in
     let x : field_in l c.field.result ≡ get_or (fields_in l) (3 + length (columns_at a.name)) (num 0) = field_in_lem l _ _ c.requires.fact_2.fields (rw c.requires.fact_2.counts h) (rw c.column_count-k.ensures at c.field.ensures) in
-    (rw c.column_count-k.ensures at c.size_step-in-Value.ensures) ∙ size_sized l a.count a.name f e h _ x _ (ap value_as (sym c.in-Value.is) ∙ c.number_of.ensures l)
+    (rw c.column_count-k.ensures at c.size_step-in-Sized.ensures) ∙ size_sized l a.count a.name f e h _ x _ (ap value_as (sym c.in-Some.is) ∙ c.number_of.ensures l)
 
-pub returns-in-OutOfRange : goal.returns-in-OutOfRange
+pub returns-in_default : goal.returns-in_default
 unfolding tail_as size_as value_as
-returns-in-OutOfRange c =
+returns-in_default c =
     let a = c.args in
     let l = a.line.now in
     let f = c.requires.fact_2 in
     let e : tail_at a.name ≡ sized = sym c.tail_kind.ensures ∙ ap tail_as c.in-Sized.is in
     let h : 3 + length (columns_at a.name) < a.count = rw c.column_count-k.ensures at c.if-count-k.false in
     let x : field_in l c.field.result ≡ get_or (fields_in l) (3 + length (columns_at a.name)) (num 0) = field_in_lem l _ _ c.requires.fact_2.fields (rw c.requires.fact_2.counts h) (rw c.column_count-k.ensures at c.field.ensures) in
-    size_off l a.count a.name f e h _ x (ap value_as (sym c.in-OutOfRange.is) ∙ c.number_of.ensures l)
+    size_off l a.count a.name f e h _ x (ap value_as (sym c.in_default.is) ∙ c.number_of.ensures l)
