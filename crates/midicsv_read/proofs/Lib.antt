@@ -1,3 +1,4 @@
+pub mod PhaseLaws
 pub mod QuotedLaws
 pub mod DataLaws
 pub mod NumberedLaws

@@ -34,7 +34,10 @@ use Rattle.midicsv_record.specs.Row.{name_at}
 use Rattle.midicsv_read.specs.RowEvent.{event_kind, kind_numbered, status_after}
 use Rattle.midicsv_read.specs.Progress.{events_bytes, front_bytes, bytes_of, Inside, InTrack, Follows}
 use Rattle.midicsv_read.specs.declared.Progress.{Progress}
-use Rattle.midicsv_read.specs.declared.Step.TheVariants.{Moved, Bad}
+use Rattle.std.specs.Prelude.{Ok, Err, Result as CodeResult}
+use Rattle.event.specs.declared.refusal.Refusal.{Refusal}
+use Rattle.event.specs.declared.refusal.Refusal.TheVariants.{RecordOutOfOrder, StepTooGreat}
+use Rattle.midicsv_read.specs.declared.Phase.{Phase}
 use Rattle.event_write.proofs.PatchLaws.{patch}
 use Rattle.midicsv_read.proofs.BytesSoFarLaws.{last_time_lem, last_force_lem, inside_more, between_more}
 use Rattle.midicsv_read.proofs.RowEventLaws.{row_event, status_row, end_row}
@@ -73,7 +76,7 @@ module _ (m : Manner) (st : Progress) (out : List ℕ) (track time : ℕ) (v : V
 
   -- ---- refused
 
-  pub event_phase : (x : RecordName) (new : List ℕ) → is_event x ≡ true → (st.phase ≡ 2 → ⊥) → Follows m st out (λ s. step s (said x)) (Bad 26) new
+  pub event_phase : (x : RecordName) (new : List ℕ) → is_event x ≡ true → (st.phase ≡ Phase.InTrack → ⊥) → Follows m st out (λ s. step s (said x)) (Err RecordOutOfOrder) new
   unfolding is_event step step_on
   event_phase header new i q s old a = absurd (false≢true i)
   event_phase start_track new i q s old a = absurd (false≢true i)
@@ -83,7 +86,7 @@ module _ (m : Manner) (st : Progress) (out : List ℕ) (track time : ℕ) (v : V
   event_phase (event g) new i q (inside h ts es prev) old a = absurd (q a.numbers.phase)
   event_phase (event g) new i q (finished p) old a = refl
 
-  pub event_track : (x : RecordName) (new : List ℕ) → is_event x ≡ true → (track ≡ st.tracks + 1 → ⊥) → Follows m st out (λ s. step s (said x)) (Bad 26) new
+  pub event_track : (x : RecordName) (new : List ℕ) → is_event x ≡ true → (track ≡ st.tracks + 1 → ⊥) → Follows m st out (λ s. step s (said x)) (Err RecordOutOfOrder) new
   unfolding is_event step step_on take_event test
   event_track header new i n s old a = absurd (false≢true i)
   event_track start_track new i n s old a = absurd (false≢true i)
@@ -95,7 +98,7 @@ module _ (m : Manner) (st : Progress) (out : List ℕ) (track time : ℕ) (v : V
       rw (ne_eqb track (suc (length ts)) (λ e. n (omega (arith, k.tracks))))
   event_track (event g) new i n (finished p) old a = refl
 
-  pub event_falls : (x : RecordName) (new : List ℕ) → is_event x ≡ true → track ≡ st.tracks + 1 → time < st.time.0 → Follows m st out (λ s. step s (said x)) (Bad 26) new
+  pub event_falls : (x : RecordName) (new : List ℕ) → is_event x ≡ true → track ≡ st.tracks + 1 → time < st.time.0 → Follows m st out (λ s. step s (said x)) (Err RecordOutOfOrder) new
   unfolding is_event step step_on take_event test
   event_falls header new i t n s old a = absurd (false≢true i)
   event_falls start_track new i t n s old a = absurd (false≢true i)
@@ -111,18 +114,18 @@ module _ (m : Manner) (st : Progress) (out : List ℕ) (track time : ℕ) (v : V
       → (eqb track (suc (length ts)) && leb prev time) ≡ true
   passes h ts es prev k t n = ap₂ ◌&&◌ (eq-eqb track (suc (length ts)) (omega (arith, k.tracks))) (le-leb prev time (omega (arith, k.time)))
 
-  pub event_far : (x : RecordName) (new : List ℕ) (d : ℕ) → is_event x ≡ true → st.phase ≡ 2 → track ≡ st.tracks + 1 → st.time.0 ≤ time → d ≡ time - st.time.0 → 268435455 < d
-      → Follows m st out (λ s. step s (said x)) (Bad 27) new
+  pub event_far : (x : RecordName) (new : List ℕ) (d : ℕ) → is_event x ≡ true → st.phase ≡ Phase.InTrack → track ≡ st.tracks + 1 → st.time.0 ≤ time → d ≡ time - st.time.0 → 268435455 < d
+      → Follows m st out (λ s. step s (said x)) (Err StepTooGreat) new
   unfolding is_event step step_on take_event test
   event_far header new d i q t n e f s old a = absurd (false≢true i)
   event_far start_track new d i q t n e f s old a = absurd (false≢true i)
   event_far end_of_file new d i q t n e f s old a = absurd (false≢true i)
-  event_far (event g) new d i q t n e f first old a = absurd (omega (arith, a.numbers))
-  event_far (event g) new d i q t n e f (between h ts) old a = absurd (omega (arith, a.numbers.phase))
+  event_far (event g) new d i q t n e f first old a = absurd (cc (a.numbers))
+  event_far (event g) new d i q t n e f (between h ts) old a = absurd (cc (a.numbers.phase))
   event_far (event g) new d i q t n e f (inside h ts es prev) old a =
       let k : Inside m st h ts es prev = a.numbers in
       rw (passes h ts es prev k t n, lt-leb (time - prev) 268435455 (omega (arith, k.time)))
-  event_far (event g) new d i q t n e f (finished p) old a = absurd (omega (arith, a.numbers))
+  event_far (event g) new d i q t n e f (finished p) old a = absurd (cc (a.numbers))
 
   -- ---- taken
 
@@ -157,13 +160,13 @@ module _ (m : Manner) (st : Progress) (out : List ℕ) (track time : ℕ) (v : V
   pub event_moved : (x : RecordName) (new : List ℕ) (start n d at f : ℕ) → is_event x ≡ true → Given n (said x) → n ≤ text_limit → InTrack st track time d
       → Written out st.at (head_bytes m st.force d (kind_numbered x v.columns start (length v.body)) ++ v.body) new at
       → end_of (kind_numbered x v.columns start 0) ≡ false → f ≡ status_after (kind_numbered x v.columns start 0)
-      → Follows m st out (λ s. step s (said x)) (Moved (record { phase = 2; count = st.count; tracks = st.tracks; time = record { 0 = time }; force = f; size = st.size; at = at })) new
+      → Follows m st out (λ s. step s (said x)) (Ok (record { phase = st.phase; count = st.count; tracks = st.tracks; time = record { 0 = time }; force = f; size = st.size; at = at })) new
   unfolding is_event kind_numbered after_event
   event_moved header new start n d at f i gv short there b z w s old a = absurd (false≢true i)
   event_moved start_track new start n d at f i gv short there b z w s old a = absurd (false≢true i)
   event_moved end_of_file new start n d at f i gv short there b z w s old a = absurd (false≢true i)
-  event_moved (event g) new start n d at f i gv short there b z w first old a = absurd (omega (arith, a.numbers, there.phase))
-  event_moved (event g) new start n d at f i gv short there b z w (between h ts) old a = absurd (omega (arith, a.numbers.phase, there.phase))
+  event_moved (event g) new start n d at f i gv short there b z w first old a = absurd (cc (a.numbers, there.phase))
+  event_moved (event g) new start n d at f i gv short there b z w (between h ts) old a = absurd (cc (a.numbers.phase, there.phase))
   event_moved (event g) new start n d at f i gv short there b z w (inside h ts es prev) old a =
       let k : Inside m st h ts es prev = a.numbers in (
         inside h ts (es ++ (this g ∷ [])) time,
@@ -171,7 +174,7 @@ module _ (m : Manner) (st : Progress) (out : List ℕ) (track time : ℕ) (v : V
         record {
           numbers =
               record {
-                phase = refl;
+                phase = there.phase;
                 count = k.count;
                 tracks = k.tracks;
                 more = k.more;
@@ -185,7 +188,7 @@ module _ (m : Manner) (st : Progress) (out : List ℕ) (track time : ℕ) (v : V
           written = grown g h ts es prev d k there start n at old new gv short a.written b;
         },
       )
-  event_moved (event g) new start n d at f i gv short there b z w (finished p) old a = absurd (omega (arith, a.numbers, there.phase))
+  event_moved (event g) new start n d at f i gv short there b z w (finished p) old a = absurd (cc (a.numbers, there.phase))
 
   -- the length that the track has, over the zero that stood for it
   filled : (h : Header) (ts : List (List Event)) (es : List Event) (old mid new : List ℕ) (at next : ℕ) → st.size ≡ length (front_bytes m h ts)
@@ -202,13 +205,13 @@ module _ (m : Manner) (st : Progress) (out : List ℕ) (track time : ℕ) (v : V
   pub event_ended : (x : RecordName) (mid new : List ℕ) (start n d at next : ℕ) → is_event x ≡ true → Given n (said x) → n ≤ text_limit → InTrack st track time d
       → Written out st.at (head_bytes m st.force d (kind_numbered x v.columns start (length v.body)) ++ v.body) mid at
       → end_of (kind_numbered x v.columns start 0) ≡ true → Written mid st.size (big_endian 4 (at - st.size - 4)) new next
-      → Follows m st out (λ s. step s (said x)) (Moved (record { phase = 1; count = st.count; tracks = st.tracks + 1; time = record { 0 = 0 }; force = 0; size = 0; at = at })) new
+      → Follows m st out (λ s. step s (said x)) (Ok (record { phase = Phase.BetweenTracks; count = st.count; tracks = st.tracks + 1; time = record { 0 = 0 }; force = 0; size = 0; at = at })) new
   unfolding is_event kind_numbered after_event
   event_ended header mid new start n d at next i gv short there b z w s old a = absurd (false≢true i)
   event_ended start_track mid new start n d at next i gv short there b z w s old a = absurd (false≢true i)
   event_ended end_of_file mid new start n d at next i gv short there b z w s old a = absurd (false≢true i)
-  event_ended (event g) mid new start n d at next i gv short there b z w first old a = absurd (omega (arith, a.numbers, there.phase))
-  event_ended (event g) mid new start n d at next i gv short there b z w (between h ts) old a = absurd (omega (arith, a.numbers.phase, there.phase))
+  event_ended (event g) mid new start n d at next i gv short there b z w first old a = absurd (cc (a.numbers, there.phase))
+  event_ended (event g) mid new start n d at next i gv short there b z w (between h ts) old a = absurd (cc (a.numbers.phase, there.phase))
   event_ended (event g) mid new start n d at next i gv short there b z w (inside h ts es prev) old a =
       let k : Inside m st h ts es prev = a.numbers in
       let fs : List Event = es ++ (this g ∷ []) in
@@ -228,4 +231,4 @@ module _ (m : Manner) (st : Progress) (out : List ℕ) (track time : ℕ) (v : V
           written = filled h ts fs old mid new at next k.size (grown g h ts es prev d k there start n at old mid gv short a.written b) w;
         },
       )
-  event_ended (event g) mid new start n d at next i gv short there b z w (finished p) old a = absurd (omega (arith, a.numbers, there.phase))
+  event_ended (event g) mid new start n d at next i gv short there b z w (finished p) old a = absurd (cc (a.numbers, there.phase))

@@ -27,20 +27,20 @@ use Rattle.midicsv_read.specs.declared.Progress.{Progress}
 use Rattle.std.specs.Prelude.{Ok, Err, Result as CodeResult}
 use Rattle.event.specs.Refusal.{number_of}
 use Rattle.event.specs.declared.refusal.Refusal.{Refusal}
-use Rattle.midicsv_read.specs.declared.Step.{Step}
-use Rattle.midicsv_read.specs.declared.Step.TheVariants.{Moved, Bad}
+use Rattle.event.specs.declared.refusal.Refusal.TheVariants.{RecordOutOfOrder, StepTooGreat}
+use Rattle.midicsv_read.specs.declared.Phase.{Phase}
 
-pub near_wider : (n m : ℕ) (r : Step) → n ≤ m → Near n r → Near m r
-near_wider n m (Moved st) h k = omega arith
-near_wider n m (Bad j) h k = tt
+pub near_wider : (n m : ℕ) (r : CodeResult Progress Refusal) → n ≤ m → Near n r → Near m r
+near_wider n m (Ok st) h k = omega arith
+near_wider n m (Err j) h k = tt
 
 -- steps that are the same in every state
-follows_same : (m : Manner) (st : Progress) (out : List ℕ) (f g : State → Result State) (r : Step) (new : List ℕ) → ((s : State) → g s ≡ f s) → Follows m st out f r new → Follows m st out g r new
+follows_same : (m : Manner) (st : Progress) (out : List ℕ) (f g : State → Result State) (r : CodeResult Progress Refusal) (new : List ℕ) → ((s : State) → g s ≡ f s) → Follows m st out f r new → Follows m st out g r new
 follows_same m st out f g r new e h s old a = subst (λ x. Answers m x old r new) (sym (e s)) (h s old a)
 
 -- ---- by its name
 
-module _ (m : Manner) (st : Progress) (out : List ℕ) (l : List ℕ) (row : Row) (r : Step) (new : List ℕ) where
+module _ (m : Manner) (st : Progress) (out : List ℕ) (l : List ℕ) (row : Row) (r : CodeResult Progress Refusal) (new : List ℕ) where
   header_named : (s : State) → row.name ≡ 0 → row_step l row s ≡ header_step row s
   unfolding step shape body_in
   header_named s e = rw e
@@ -74,15 +74,13 @@ header_numbers l row b k e =
 
 -- ---- a line and its row
 
-pub row_of_lem : (l : List ℕ) (x : CodeResult Row Refusal) (row : Row) → line_as l x ≡ read_line l → Placed l x → x ≡ Ok row → length l ≤ text_limit → RowOf l row
+pub row_of_lem : (l : List ℕ) (row : Row) → line_as l (Ok row) ≡ read_line l → Placed l (Ok row) → length l ≤ text_limit → RowOf l row
 unfolding line_as Placed
-row_of_lem l x row e p q h =
-    let p1 : Placed l (Ok row) = subst (Placed l) q p in
-    record { reads = sym e ∙ ap (line_as l) q; name = p1.0; start = p1.1; len = p1.2; short = h }
+row_of_lem l row e p h = record { reads = sym e; name = p.0; start = p.1; len = p.2; short = h }
 
-pub wrong_of : (l : List ℕ) (x : CodeResult Row Refusal) (r : Refusal) → line_as l x ≡ read_line l → x ≡ Err r → read_line l ≡ bad (number_of r)
+pub wrong_of : (l : List ℕ) (r : Refusal) → line_as l (Err r) ≡ read_line l → read_line l ≡ bad (number_of r)
 unfolding line_as
-wrong_of l x r e q = sym e ∙ ap (line_as l) q
+wrong_of l r e = sym e
 
 -- b is the line l without its CR
 module _ (m : Manner) (st : Progress) (out l b : List ℕ) (cut : b ≡ trimmed l) where
@@ -94,14 +92,14 @@ module _ (m : Manner) (st : Progress) (out l b : List ℕ) (cut : b ≡ trimmed 
   unfolding tell_line framed
   tells h = rw (← cut) (pick_false skipped (told (read_line b)) h)
 
-  pub line_over : passed_over b ≡ true → Follows m st out (line_step l) (Moved st) out
+  pub line_over : passed_over b ≡ true → Follows m st out (line_step l) (Ok st) out
   unfolding step_told
   line_over h s old a = (s, ap (step_told s) (over h), a)
 
-  pub line_wrong : (new : List ℕ) (n : ℕ) → passed_over b ≡ false → read_line b ≡ bad n → Follows m st out (line_step l) (Bad n) new
+  pub line_wrong : (new : List ℕ) (n : Refusal) → passed_over b ≡ false → read_line b ≡ bad (number_of n) → Follows m st out (line_step l) (Err n) new
   unfolding step_told next
   line_wrong new n h e s old a = ap (step_told s) (tells h ∙ ap told e)
 
-  pub line_taken : (new : List ℕ) (r : Record) (x : Step) → passed_over b ≡ false → read_line b ≡ good r → Follows m st out (λ s. step s r) x new → Follows m st out (line_step l) x new
+  pub line_taken : (new : List ℕ) (r : Record) (x : CodeResult Progress Refusal) → passed_over b ≡ false → read_line b ≡ good r → Follows m st out (λ s. step s r) x new → Follows m st out (line_step l) x new
   unfolding step_told next
   line_taken new r x h e f = follows_same m st out (λ s. step s r) (line_step l) x new (λ s. ap (step_told s) (tells h ∙ ap told e)) f
