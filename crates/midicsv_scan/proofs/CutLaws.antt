@@ -1,14 +1,19 @@
 -- The end of a line, looked for byte by byte.
-use mathlib.Core.Path.{◌≡◌, refl, sym, ap, ap₂, ◌∙◌}
+use mathlib.Core.Path.{◌≡◌, sym, ap, ap₂, ◌∙◌}
 use Prim.Native.Nat.{ℕ, suc, ◌+◌, ◌-◌, ◌<◌, ◌≤◌}
-use mathlib.Core.Bool.{false}
-use mathlib.Core.List.{List, [], ◌∷◌, ◌++◌, append_assoc, append-nil}
+use mathlib.Core.Bool.{Bool, false}
+use mathlib.Core.List.{List, [], ◌∷◌, ◌++◌, append-nil}
 use native.Mathlib.Omega.{arith}
 use native.Mathlib.Numerals.{add-one}
-use lib.ListN.{length, get_or, take, drop, length-append, length-drop, drop_of_length-le}
-use lib.Seq.{drop-cons, length-take-le, take-append_seam}
+use lib.ListN.{length, get_or, take, drop, length-drop, drop_of_length-le}
+use lib.Seq.{drop-cons, get_or-drop, length-take-le, take-append_seam}
 use lib.Dec.{eqb}
-use borrow.Author.Tests.{ne_eqb}
+use borrow.Author.Tests.{eqb-true}
+use Rattle.std.proofs.Common.{one-add, not}
+use Rattle.std.specs.List.{prefix_len}
+use Rattle.std.proofs.lemmas.List.{drop-drop, take-append-drop}
+use Rattle.std.proofs.lemmas.List.Sums.{prefix_len-le-length, prefix_len_stops}
+use Rattle.event.proofs.ChoiceLaws.{by_test}
 use Rattle.midicsv.specs.Lines.{lines_of}
 use Rattle.midicsv.proofs.LineLaws.{NoFeed, lines_feed, lines_last}
 use Rattle.midicsv_scan.specs.Cut.{CutAt}
@@ -21,22 +26,33 @@ pub record Scanning (s : List ℕ) (i e : ℕ) : Type 0 where
   pub size : i + length line ≡ e
   pub high : e ≤ length s
 
-pub scan_first : (s : List ℕ) (i : ℕ) → i ≤ length s → Scanning s i i
-scan_first s i h = record { line = []; clean = tt; splits = refl; size = omega arith; high = h }
+-- a byte of a line
+abbrev pub in_line : ℕ → Bool
+in_line c = not (eqb c 10)
 
-clean_more : (l : List ℕ) (c : ℕ) → NoFeed l → eqb c 10 ≡ false → NoFeed (l ++ (c ∷ []))
-clean_more [] c a h = (h, tt)
-clean_more (b ∷ l) c a h = (a.0, clean_more l c a.1 h)
+clean_front : (l : List ℕ) → NoFeed (take (prefix_len in_line l) l)
+clean_front [] = tt
+clean_front (c ∷ l) = by_test (eqb c 10) (λ t. rw t tt) (λ t. rw (t, one-add) (t, clean_front l))
 
-pub scan_on : (s : List ℕ) (i e : ℕ) → Scanning s i e → e < length s → (get_or s e 0 ≡ 10 → ⊥) → Scanning s i (e + 1)
-scan_on s i e a h n =
+pub scanned : (s : List ℕ) (i e : ℕ) → i ≤ length s → e ≡ i + prefix_len in_line (drop i s) → Scanning s i e
+scanned s i e h m =
+    let n = prefix_len in_line (drop i s) in
+    let k : n ≤ length (drop i s) = prefix_len-le-length in_line (drop i s) in
     record {
-      line = a.line ++ (get_or s e 0 ∷ []);
-      clean = clean_more a.line (get_or s e 0) a.clean (ne_eqb (get_or s e 0) 10 n);
-      splits = a.splits ∙ rw (add-one, drop-cons s e 0 h) (sym (append_assoc a.line (get_or s e 0 ∷ []) (drop (suc e) s)));
-      size = omega (arith, a.size, length-append a.line (get_or s e 0 ∷ []));
-      high = omega arith;
+      line = take n (drop i s);
+      clean = clean_front (drop i s);
+      splits = rw (m, ← drop-drop n i s) (sym (take-append-drop n (drop i s)));
+      size = omega (arith, length-take-le n (drop i s) k);
+      high = omega (arith, length-drop i s);
     }
+
+-- what ends a line is a LF
+pub line_stops : (s : List ℕ) (i e : ℕ) → e ≡ i + prefix_len in_line (drop i s) → e < length s → get_or s e 0 ≡ 10
+line_stops s i e m h =
+    let n = prefix_len in_line (drop i s) in
+    let k : n < length (drop i s) = omega (arith, length-drop i s) in
+    let t : not (eqb (get_or s e 0) 10) ≡ false = rw (m, ← get_or-drop i s n 0) (prefix_len_stops in_line (drop i s) 0 k) in
+    by_test (eqb (get_or s e 0) 10) (λ q. eqb-true (get_or s e 0) 10 q) (λ q. cc (rw q at t))
 
 the_line : (s : List ℕ) (i e : ℕ) (a : Scanning s i e) → take (e - i) (drop i s) ≡ a.line
 the_line s i e a =

@@ -1,56 +1,46 @@
 -- The loops over blanks and over a name's letters, and what closes a field.
 use mathlib.Core.Path.{◌≡◌, refl, sym, ap, ◌∙◌}
-use Prim.Native.Nat.{ℕ, suc, ◌+◌, ◌-◌, ◌<◌, ◌≤◌}
-use mathlib.Core.Bool.{true, false}
+use Prim.Native.Nat.{ℕ, ◌+◌, ◌-◌, ◌<◌, ◌≤◌}
+use Rattle.std.proofs.Common.{Option, Some, None, one-add}
+use Rattle.std.specs.List.{prefix_len}
+use Rattle.std.proofs.lemmas.List.{drop-drop}
+use Rattle.std.proofs.lemmas.List.Sums.{prefix_len-le-length}
 use mathlib.Core.List.{List, [], ◌∷◌, ◌++◌}
 use native.Mathlib.Omega.{arith}
-use native.Mathlib.Numerals.{add-one}
 use lib.ListN.{length, take, drop, get_or, length-append, length-drop, drop_of_length-le}
 use lib.Seq.{drop-cons, take_at}
 use borrow.Author.Tests.{eq-eqb, ne_eqb}
 use Rattle.event.specs.Outcome.{ok, check}
-use Rattle.event.proofs.ChoiceLaws.{pick_true, pick_false, pick_cases}
+use Rattle.event.proofs.ChoiceLaws.{pick_true, pick_false, pick_cases, by_test}
 use Rattle.event.proofs.OutcomeLaws.{ok_same}
 use Rattle.midicsv.specs.ReadField.{is_blank, is_letter, skip, read_name, at_comma, finish}
 use Rattle.midicsv.proofs.FieldPartLaws.{push_ok}
 use Rattle.midicsv_scan.specs.Part.{EndWithin, Skipped, ending, NameEnds, closed_as, Closes}
-use Rattle.midicsv_scan.specs.declared.PartEnd.TheVariants.{At, Nowhere}
 use Rattle.midicsv_scan.proofs.TextLaws.{ending_push, ending_ok}
 
--- ---- blanks: what is skipped from at on is what is skipped from p on
+-- ---- blanks: those in front are skipped
 
-pub record Skipping (l : List ℕ) (at p : ℕ) : Type 0 where
-  pub low : at ≤ p
-  pub high : p ≤ length l
-  pub same : skip (drop at l) ≡ skip (drop p l)
+skip_front : (l : List ℕ) → skip l ≡ drop (prefix_len is_blank l) l
+unfolding skip
+skip_front [] = refl
+skip_front (c ∷ l) = by_test (is_blank c) (λ t. rw (t, one-add) (pick_true _ _ refl ∙ skip_front l)) (λ t. rw t (pick_false _ _ refl))
 
-pub skipping_first : (l : List ℕ) (at : ℕ) → at ≤ length l → Skipping l at at
-skipping_first l at h = record { low = omega arith; high = h; same = refl }
+pub skipped : (l : List ℕ) (at p : ℕ) → at ≤ length l → p ≡ at + prefix_len is_blank (drop at l) → Skipped l at p
+skipped l at p h e =
+    rw e
+    record {
+      low = omega arith;
+      high = omega (arith, prefix_len-le-length is_blank (drop at l), length-drop at l);
+      same = skip_front (drop at l) ∙ drop-drop (prefix_len is_blank (drop at l)) at l;
+    }
 
-module _ {l : List ℕ} {at p : ℕ} (g : Skipping l at p) where
-  pub skipping_on : p < length l → is_blank (get_or l p 0) ≡ true → Skipping l at (p + 1)
-  unfolding skip
-  skipping_on h t =
-      let low = g.low in
-      record { low = omega arith; high = omega arith; same = g.same ∙ rw (add-one p, drop-cons l p 0 h) (pick_true _ _ t) }
+-- ---- names
 
-  pub skipping_stop : p < length l → is_blank (get_or l p 0) ≡ false → Skipped l at p
-  unfolding skip
-  skipping_stop h t = record { low = g.low; high = g.high; same = g.same ∙ rw (drop-cons l p 0 h) (pick_false _ _ t) }
-
-  pub skipping_end : length l ≤ p → Skipped l at p
-  unfolding skip
-  skipping_end h = record { low = g.low; high = g.high; same = g.same ∙ rw (drop_of_length-le l h) }
-
--- ---- names: the name from at on ends where it ends from p on
-
-pub record Naming (l : List ℕ) (at p : ℕ) : Type 0 where
-  pub low : at ≤ p
-  pub high : p ≤ length l
-  pub same : ending (read_name (drop at l)) ≡ ending (read_name (drop p l))
-
-pub naming_first : (l : List ℕ) (at : ℕ) → at ≤ length l → Naming l at at
-naming_first l at h = record { low = omega arith; high = h; same = refl }
+name_front : (l : List ℕ) → ending (read_name l) ≡ ok 0 (drop (prefix_len is_letter l) l)
+unfolding read_name ending
+name_front [] = refl
+name_front (c ∷ l) =
+    by_test (is_letter c) (λ t. rw (t, one-add) (ap ending (pick_true _ _ refl) ∙ ending_push c (read_name l) ∙ name_front l)) (λ t. rw t (ap ending (pick_false _ _ refl)))
 
 name_sound : (l s r : List ℕ) → read_name l ≡ ok s r → l ≡ s ++ r
 unfolding read_name
@@ -70,36 +60,28 @@ named l at p a b e =
     let t : take (p - at) (drop at l) ≡ d = ap (take (p - at)) s ∙ take_at d (drop p l) (p - at) m in
     record { low = a; high = b; same = q ∙ ap (λ x. ok x (drop p l)) (sym t) }
 
-module _ {l : List ℕ} {at p : ℕ} (g : Naming l at p) where
-  pub naming_on : p < length l → is_letter (get_or l p 0) ≡ true → Naming l at (p + 1)
-  unfolding read_name
-  naming_on h t =
-      let low = g.low in
-      record {
-        low = omega arith;
-        high = omega arith;
-        same = g.same ∙ rw (add-one p, drop-cons l p 0 h) (ap ending (pick_true _ _ t) ∙ ending_push (get_or l p 0) (read_name (drop (suc p) l)));
-      }
-
-  pub naming_stop : p < length l → is_letter (get_or l p 0) ≡ false → NameEnds l at p
-  unfolding read_name ending
-  naming_stop h t = named l at p g.low g.high (g.same ∙ rw (drop-cons l p 0 h) (ap ending (pick_false _ _ t)))
-
-  pub naming_end : length l ≤ p → NameEnds l at p
-  unfolding read_name ending
-  naming_end h = named l at p g.low g.high (g.same ∙ rw (drop_of_length-le l h))
+pub name_ends : (l : List ℕ) (at p : ℕ) → at ≤ length l → p ≡ at + prefix_len is_letter (drop at l) → NameEnds l at p
+name_ends l at p h e =
+    let n : prefix_len is_letter (drop at l) ≤ length (drop at l) = prefix_len-le-length is_letter (drop at l) in
+    let s : ending (read_name (drop at l)) ≡ ok 0 (drop p l) =
+    rw e (name_front (drop at l) ∙ ap (ok 0) (drop-drop (prefix_len is_letter (drop at l)) at l)) in
+    named l at p (omega arith) (omega (arith, length-drop at l)) s
 
 -- ---- the end of the line or a comma
 
+-- what is answered of where a field is closed
+abbrev pub ClosedAt : List ℕ → ℕ → Option ℕ → Type 0
+ClosedAt l at r = record { fact_1 : Closes l at r; fact_2 : EndWithin l at r }
+
 module _ {l : List ℕ} {at p : ℕ} (k : Skipped l at p) where
-  pub closed_end_lem : length l ≤ p → Closes l at (At p) × EndWithin l at (At p)
+  pub closed_end_lem : length l ≤ p → ClosedAt l at (Some p)
   unfolding finish at_comma closed_as
-  closed_end_lem h = (λ f. rw (k.same, drop_of_length-le l h), (k.low, k.high))
+  closed_end_lem h = record { fact_1 = λ f. rw (k.same, drop_of_length-le l h); fact_2 = (k.low, k.high) }
 
-  pub closed_comma : p < length l → get_or l p 0 ≡ 44 → Closes l at (At p) × EndWithin l at (At p)
+  pub closed_comma : p < length l → get_or l p 0 ≡ 44 → ClosedAt l at (Some p)
   unfolding finish at_comma closed_as check
-  closed_comma h e = (λ f. rw (k.same, drop-cons l p 0 h, eq-eqb (get_or l p 0) 44 e), (k.low, k.high))
+  closed_comma h e = record { fact_1 = λ f. rw (k.same, drop-cons l p 0 h, eq-eqb (get_or l p 0) 44 e); fact_2 = (k.low, k.high) }
 
-  pub closed_not : p < length l → (get_or l p 0 ≡ 44 → ⊥) → Closes l at Nowhere × EndWithin l at Nowhere
+  pub closed_not : p < length l → (get_or l p 0 ≡ 44 → ⊥) → ClosedAt l at None
   unfolding finish at_comma closed_as check
-  closed_not h e = (λ f. rw (k.same, drop-cons l p 0 h, ne_eqb (get_or l p 0) 44 e), tt)
+  closed_not h e = record { fact_1 = λ f. rw (k.same, drop-cons l p 0 h, ne_eqb (get_or l p 0) 44 e); fact_2 = tt }

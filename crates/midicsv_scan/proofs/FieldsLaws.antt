@@ -1,6 +1,7 @@
 -- The loops over the fields of a line.
 use mathlib.Core.Path.{◌≡◌, refl, sym, ap, ◌∙◌}
 use Prim.Native.Nat.{ℕ, suc, ◌+◌, ◌<◌, ◌≤◌}
+use Rattle.std.proofs.Common.{Option, Some, None}
 use mathlib.Core.List.{List, [], ◌∷◌, ◌++◌, append_assoc}
 use native.Mathlib.Omega.{arith}
 use native.Mathlib.Numerals.{add-one}
@@ -13,37 +14,29 @@ use Rattle.event.proofs.OutcomeLaws.{not_ok, ok_same, and_then_ok, and_then_eq}
 use Rattle.midicsv.specs.Field.{Field, num}
 use Rattle.midicsv.specs.ReadField.{read_field, onward, all_fields}
 use Rattle.midicsv.proofs.FieldsLaws.{fields_step}
-use Rattle.midicsv_scan.specs.FieldStep.{field_as, Within, Counted, Begins, FieldIs}
+use Rattle.midicsv_scan.specs.FieldAt.{next_of, field_as, Within, Counted, Begins, FieldIs}
 use Rattle.midicsv_scan.specs.Part.{EndWithin, FieldEnds}
-use Rattle.midicsv_scan.specs.declared.FieldCount.TheVariants.{Count, NoCount}
-use Rattle.midicsv_scan.specs.declared.FieldStep.{FieldStep}
-use Rattle.midicsv_scan.specs.declared.FieldStep.TheVariants.{Number, Minus, Name, Quoted, BadField}
-use Rattle.midicsv_scan.specs.declared.PartEnd.{PartEnd}
-use Rattle.midicsv_scan.specs.declared.PartEnd.TheVariants.{At, Nowhere}
-use Rattle.midicsv_scan.proofs.FieldLaws.{within_from, end_place}
+use Rattle.midicsv_scan.specs.declared.FieldAt.{FieldAt}
+use Rattle.midicsv_scan.specs.declared.FieldAt.TheVariants.{Number, Minus, Name, Quoted}
+use Rattle.midicsv_scan.proofs.FieldLaws.{Reads, within_from}
 
 -- ---- the end of a field, whatever the field
 
-module _ (l : List ℕ) (at : ℕ) (r : FieldStep) (e : field_as l r ≡ read_field (drop at l)) (w : Within l at r) where
-  pub number_ends : (v q : ℕ) → r ≡ Number v q → FieldEnds l at (At q) × EndWithin l at (At q)
-  unfolding field_as Within FieldEnds
-  number_ends v q z = ((_, sym (rw z at e)), rw z at w)
+-- what is answered of where a field ends
+abbrev pub EndsAt : List ℕ → ℕ → Option ℕ → Type 0
+EndsAt l at r = record { fact_1 : FieldEnds l at r; fact_2 : EndWithin l at r }
 
-  pub minus_ends : (v q : ℕ) → r ≡ Minus v q → FieldEnds l at (At q) × EndWithin l at (At q)
+module _ (l : List ℕ) (at : ℕ) where
+  pub field_ends : (f : FieldAt) → Reads l at (Some f) (read_field (drop at l)) → EndsAt l at (Some (next_of f))
   unfolding field_as Within FieldEnds
-  minus_ends v q z = ((_, sym (rw z at e)), rw z at w)
+  field_ends (Number v q) e = record { fact_1 = (_, sym e.fact_1); fact_2 = e.fact_2 }
+  field_ends (Minus v q) e = record { fact_1 = (_, sym e.fact_1); fact_2 = e.fact_2 }
+  field_ends (Name s t q) e = let w = e.fact_2 in record { fact_1 = (_, sym e.fact_1); fact_2 = (w.2, w.3) }
+  field_ends (Quoted s q) e = let w = e.fact_2 in record { fact_1 = (_, sym e.fact_1); fact_2 = (w.1, w.2) }
 
-  pub name_ends : (s t q : ℕ) → r ≡ Name s t q → FieldEnds l at (At q) × EndWithin l at (At q)
-  unfolding field_as Within FieldEnds
-  name_ends s t q z = let x : Within l at (Name s t q) = rw z at w in ((_, sym (rw z at e)), (x.2, x.3))
-
-  pub quoted_ends : (s q : ℕ) → r ≡ Quoted s q → FieldEnds l at (At q) × EndWithin l at (At q)
-  unfolding field_as Within FieldEnds
-  quoted_ends s q z = let x : Within l at (Quoted s q) = rw z at w in ((_, sym (rw z at e)), (x.1, x.2))
-
-  pub bad_ends : r ≡ BadField → FieldEnds l at Nowhere × EndWithin l at Nowhere
+  pub bad_ends : Reads l at None (read_field (drop at l)) → EndsAt l at None
   unfolding field_as FieldEnds
-  bad_ends z = (sym (rw z at e), tt)
+  bad_ends e = record { fact_1 = sym e.fact_1; fact_2 = tt }
 
 -- ---- the loop: n fields stand before the place at
 
@@ -87,17 +80,16 @@ module _ {l : List ℕ} {at n : ℕ} (b : Bytes l) (g : Counting l at n) where
   one_more : (f : Field) → length (g.done ++ (f ∷ [])) ≡ n + 1
   one_more f = length-append g.done (f ∷ []) ∙ ap (λ x. x + 1) g.size
 
-  pub counting_bad : (r : PartEnd) → r ≡ Nowhere → FieldEnds l at r → Counted l NoCount
+  pub counting_bad : FieldEnds l at None → Counted l None
   unfolding FieldEnds Counted
-  counting_bad r z e = no_field (rw z at e)
+  counting_bad e = no_field e
 
-  module _ (r : PartEnd) (q : ℕ) (z : r ≡ At q) (e : FieldEnds l at r) (w : EndWithin l at r) where
+  module _ (q : ℕ) (e : EndsAt l at (Some q)) where
     pub counting_on : q < length l → Counting l (q + 1) (n + 1)
     unfolding FieldEnds onward
     counting_on h =
-        let (f, y) : FieldEnds l at (At q) = rw z at e in
-        let (x, v) = end_place l at r q z w in
-        let few = g.few in
+        let (f, y) = e.fact_1 in
+        let (low, few) : (at ≤ q) × (n ≤ at) = (e.fact_2.0, g.few) in
         record {
           high = omega arith;
           few = omega arith;
@@ -109,26 +101,23 @@ module _ {l : List ℕ} {at n : ℕ} (b : Bytes l) (g : Counting l at n) where
               ∙ ap (λ i. before (g.done ++ (f ∷ [])) (all_fields (drop i l))) (sym (add-one q));
         }
 
-    pub counting_last : length l ≤ q → Counted l (Count (n + 1))
+    pub counting_last : length l ≤ q → Counted l (Some (n + 1))
     unfolding FieldEnds Counted
-    counting_last h =
-        let (f, y) : FieldEnds l at (At q) = rw z at e in
-        (g.done ++ (f ∷ []), last_field f q y h, one_more f)
+    counting_last h = let (f, y) = e.fact_1 in (g.done ++ (f ∷ []), last_field f q y h, one_more f)
 
   -- ---- the place of the field numbered i
 
   -- no field here, or too few of them: then the line is not of the kind asked for
-  pub place_bad : (i : ℕ) (r : PartEnd) → r ≡ Nowhere → FieldEnds l at r → Begins l i at
+  pub place_bad : (i : ℕ) → FieldEnds l at None → Begins l i at
   unfolding FieldEnds
-  place_bad i r z e = record { inside = g.high; rest = λ fs o h. not_ok (sym (no_field (rw z at e)) ∙ o) }
+  place_bad i e = record { inside = g.high; rest = λ fs o h. not_ok (sym (no_field e) ∙ o) }
 
-  pub place_few : (i : ℕ) (r : PartEnd) (q : ℕ) → r ≡ At q → FieldEnds l at r → EndWithin l at r → length l ≤ q → n < i → Begins l i q
+  pub place_few : (i q : ℕ) → EndsAt l at (Some q) → length l ≤ q → n < i → Begins l i q
   unfolding FieldEnds
-  place_few i r q z e w h m =
-      let (f, y) : FieldEnds l at (At q) = rw z at e in
-      let (x, v) = end_place l at r q z w in
+  place_few i q e h m =
+      let (f, y) = e.fact_1 in
       record {
-        inside = v;
+        inside = e.fact_2.1;
         rest = λ fs o k.
             ok_same (g.done ++ (f ∷ [])) fs [] [] (sym (last_field f q y h) ∙ o) (λ a c.
             let s : length fs ≡ n + 1 = ap length (sym a) ∙ one_more f in absurd (omega arith));
@@ -152,13 +141,13 @@ unfolding onward
 onward_first f [] k fs q e = ok_same (f ∷ []) fs [] q e (λ p z. rw (← p))
 onward_first f (c ∷ l) k fs q e = and_then_ok (k l) _ fs q e (λ gs r m y. ok_same (f ∷ gs) fs r q y (λ p z. rw (← p)))
 
-pub field_is : (l : List ℕ) (i p : ℕ) (r : FieldStep) → Bytes l → Begins l i p → field_as l r ≡ read_field (drop p l) → Within l p r → FieldIs l i r
-field_is l i p r b g e w =
+pub field_is : (l : List ℕ) (i p : ℕ) (r : Option FieldAt) → Bytes l → Begins l i p → Reads l p r (read_field (drop p l)) → FieldIs l i r
+field_is l i p r b g e =
     record {
-      within = within_from l 0 p r (omega arith) w;
+      within = within_from l 0 p r (omega arith) e.fact_2;
       field = λ fs o h.
           and_then_ok (read_field (drop p l)) (λ f m. onward f m all_fields) (drop i fs) [] (sym (fields_step (drop p l) (bytes_drop l p b)) ∙ g.rest fs o h) (λ f m y k.
           let z : i + 0 ≡ i = omega arith in
           let first : get_or fs i (num 0) ≡ f = ap (λ j. get_or fs j (num 0)) (sym z) ∙ sym (get_or-drop i fs 0 (num 0)) ∙ onward_first f m all_fields (drop i fs) [] k in
-          (m, e ∙ y ∙ ap (λ x. ok x m) (sym first)));
+          (m, e.fact_1 ∙ y ∙ ap (λ x. ok x m) (sym first)));
     }

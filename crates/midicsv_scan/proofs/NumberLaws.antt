@@ -2,6 +2,7 @@
 use mathlib.Core.Path.{◌≡◌, refl, sym, ap, ◌∙◌}
 use Prim.Native.Nat.{ℕ, zero, suc, ◌+◌, ◌-◌, ◌*◌, ◌<◌, ◌≤◌}
 use mathlib.Core.Bool.{true, false}
+use Rattle.std.proofs.Common.{Option, Some, None}
 use mathlib.Core.List.{List, [], ◌∷◌}
 use native.Mathlib.Omega.{arith}
 use native.Mathlib.Numerals.{add-one}
@@ -13,10 +14,7 @@ use Rattle.event.specs.Outcome.{Outcome, ok, refused, and_then, check}
 use Rattle.event.proofs.ChoiceLaws.{pick_true, pick_false, and_both, by_test}
 use Rattle.midicsv.specs.ReadField.{is_digit, read_digits, read_number}
 use Rattle.midicsv.proofs.FieldLaws.{ten}
-use Rattle.midicsv_scan.specs.Part.{digits_as, DigitsWithin, number_as}
-use Rattle.midicsv_scan.specs.declared.DigitRun.{DigitRun}
-use Rattle.midicsv_scan.specs.declared.DigitRun.TheVariants.{Digits, TooMany}
-use Rattle.midicsv_scan.specs.declared.NumberEnd.TheVariants.{Value, NoNumber}
+use Rattle.midicsv_scan.specs.Part.{number_as, NumberWithin, number_as}
 
 -- ---- a digit
 
@@ -57,6 +55,10 @@ pub record Going (l : List ℕ) (at value p : ℕ) : Type 0 where
   pub small : value < ten (p - at)
   pub same : read_digits 10 0 (drop at l) ≡ read_digits (10 - (p - at)) value (drop p l)
 
+-- what is answered of a run of digits
+abbrev pub DigitsAt : List ℕ → ℕ → Option (ℕ × ℕ) → Type 0
+DigitsAt l at r = record { fact_1 : number_as l r ≡ read_digits 10 0 (drop at l); fact_2 : NumberWithin l at r }
+
 pub going_first : (l : List ℕ) (at : ℕ) → at ≤ length l → Going l at 0 at
 going_first l at h =
     let z : at - at ≡ 0 = omega arith in
@@ -85,41 +87,40 @@ module _ {l : List ℕ} {at value p : ℕ} (g : Going l at value p) where
         same = e ∙ a_digit (10 - (p + 1 - at)) value (get_or l p 0) (drop (suc p) l) t ∙ ap (λ i. read_digits (10 - (p + 1 - at)) (value * 10 + (get_or l p 0 - 48)) (drop i l)) (sym (add-one p));
       }
 
-  pub going_stop : p < length l → is_digit (get_or l p 0) ≡ false → (digits_as l (Digits value p) ≡ read_digits 10 0 (drop at l)) × DigitsWithin l at (Digits value p)
-  unfolding digits_as
+  pub going_stop : p < length l → is_digit (get_or l p 0) ≡ false → DigitsAt l at (Some (value, p))
+  unfolding number_as
   going_stop h t =
-      let e : ok value (drop p l) ≡ read_digits 10 0 (drop at l) =
-      ap (ok value) (drop-cons l p 0 h) ∙ sym (here h ∙ no_digit (10 - (p - at)) value (get_or l p 0) (drop (suc p) l) t)
-      in
-      (e, (g.low, g.high))
+      record {
+        fact_1 = ap (ok value) (drop-cons l p 0 h) ∙ sym (here h ∙ no_digit (10 - (p - at)) value (get_or l p 0) (drop (suc p) l) t);
+        fact_2 = (g.low, g.high);
+      }
 
-  pub going_over : p < length l → is_digit (get_or l p 0) ≡ true → 10 ≤ p - at → (digits_as l TooMany ≡ read_digits 10 0 (drop at l)) × DigitsWithin l at TooMany
-  unfolding digits_as
+  pub going_over : p < length l → is_digit (get_or l p 0) ≡ true → 10 ≤ p - at → DigitsAt l at None
+  unfolding number_as
   going_over h t m =
       let f = g.few in
       let z : 10 - (p - at) ≡ 0 = omega arith in
-      (sym ((rw z at (here h)) ∙ one_over value (get_or l p 0) (drop (suc p) l) t), tt)
+      record { fact_1 = sym ((rw z at (here h)) ∙ one_over value (get_or l p 0) (drop (suc p) l) t); fact_2 = tt }
 
-  pub going_end : length l ≤ p → (digits_as l (Digits value p) ≡ read_digits 10 0 (drop at l)) × DigitsWithin l at (Digits value p)
-  unfolding digits_as
+  pub going_end : length l ≤ p → DigitsAt l at (Some (value, length l))
+  unfolding number_as
   going_end h =
+      let low = g.low in
+      let m : drop (length l) l ≡ [] = drop_of_length-le l (omega arith) in
       let n : drop p l ≡ [] = drop_of_length-le l h in
-      let e : ok value (drop p l) ≡ read_digits 10 0 (drop at l) =
-      ap (ok value) n ∙ sym (g.same ∙ ap (read_digits (10 - (p - at)) value) n ∙ no_more (10 - (p - at)) value)
-      in
-      (e, (g.low, g.high))
+      record {
+        fact_1 = ap (ok value) m ∙ sym (g.same ∙ ap (read_digits (10 - (p - at)) value) n ∙ no_more (10 - (p - at)) value);
+        fact_2 = (omega arith, omega arith);
+      }
 
 -- ---- the number
 
-pub digits_place : (l : List ℕ) (at : ℕ) (run : DigitRun) (value next : ℕ) → run ≡ Digits value next → DigitsWithin l at run → (at ≤ next) × (next ≤ length l)
-digits_place l at run value next e w = rw e at w
-
-pub number_none : (l : List ℕ) (at : ℕ) → length l ≤ at → number_as l NoNumber ≡ read_number (drop at l)
+pub number_none : (l : List ℕ) (at : ℕ) → length l ≤ at → number_as l None ≡ read_number (drop at l)
 unfolding number_as read_number
 number_none l at h = rw (drop_of_length-le l h)
 
 module _ (l : List ℕ) (at : ℕ) (h : at < length l) where
-  pub number_other : is_digit (get_or l at 0) ≡ false → number_as l NoNumber ≡ read_number (drop at l)
+  pub number_other : is_digit (get_or l at 0) ≡ false → number_as l None ≡ read_number (drop at l)
   unfolding number_as read_number check
   number_other t = rw (drop-cons l at 0 h, t)
 
@@ -128,20 +129,19 @@ module _ (l : List ℕ) (at : ℕ) (h : at < length l) where
     unfolding read_number check
     of_digits m e = rw (e, drop-cons l at 0 h, t)
 
-    pub number_many : {run : DigitRun} → run ≡ TooMany → digits_as l run ≡ read_digits 10 0 (drop at l) → number_as l NoNumber ≡ read_number (drop at l)
-    unfolding number_as digits_as and_then
-    number_many q e = of_digits (digits_as l TooMany) (rw q at e)
+    pub number_many : number_as l None ≡ read_digits 10 0 (drop at l) → number_as l None ≡ read_number (drop at l)
+    unfolding number_as and_then
+    number_many e = of_digits _ e
 
-    pub number_large : {run : DigitRun} {value next : ℕ} → run ≡ Digits value next → digits_as l run ≡ read_digits 10 0 (drop at l) → 4294967295 < value
-        → number_as l NoNumber ≡ read_number (drop at l)
-    unfolding number_as digits_as and_then check
-    number_large {value = value} {next = next} q e m =
-        let u : refused 22 0 ≡ check (leb value 4294967295) 22 0 (ok value (drop next l)) = rw (lt-leb value 4294967295 m) in
-        u ∙ of_digits (digits_as l (Digits value next)) (rw q at e)
+    module _ (value next : ℕ) (e : number_as l (Some (value, next)) ≡ read_digits 10 0 (drop at l)) where
+      pub number_large : 4294967295 < value → number_as l None ≡ read_number (drop at l)
+      unfolding number_as and_then check
+      number_large m =
+          let u : refused 22 0 ≡ check (leb value 4294967295) 22 0 (ok value (drop next l)) = rw (lt-leb value 4294967295 m) in
+          u ∙ of_digits _ e
 
-    pub number_is : {run : DigitRun} {value next : ℕ} → run ≡ Digits value next → digits_as l run ≡ read_digits 10 0 (drop at l) → value ≤ 4294967295
-        → number_as l (Value value next) ≡ read_number (drop at l)
-    unfolding number_as digits_as and_then check
-    number_is {value = value} {next = next} q e m =
-        let u : ok value (drop next l) ≡ check (leb value 4294967295) 22 0 (ok value (drop next l)) = rw (le-leb value 4294967295 m) in
-        u ∙ of_digits (digits_as l (Digits value next)) (rw q at e)
+      pub number_is : value ≤ 4294967295 → number_as l (Some (value, next)) ≡ read_number (drop at l)
+      unfolding number_as and_then check
+      number_is m =
+          let u : ok value (drop next l) ≡ check (leb value 4294967295) 22 0 (ok value (drop next l)) = rw (le-leb value 4294967295 m) in
+          u ∙ of_digits _ e

@@ -2,14 +2,14 @@
 use mathlib.Core.Path.{◌≡◌, refl, sym, ap, ◌∙◌}
 use Prim.Native.Nat.{ℕ, suc, ◌+◌, ◌-◌, ◌<◌, ◌≤◌}
 use mathlib.Core.Bool.{true, false}
+use Rattle.std.proofs.Common.{Option, Some, None}
 use mathlib.Core.List.{List, [], ◌∷◌}
 use native.Mathlib.Omega.{arith}
 use native.Mathlib.Numerals.{add-one}
 use lib.ListN.{length, drop, get_or, drop_of_length-le}
 use lib.Seq.{drop-cons}
 use borrow.Author.Tests.{le-leb, lt-leb, eq-eqb, ne_eqb}
-use denote.Enum.Declared.{tag_of}
-use types.Run.{OneOf, miss}
+use denote.Enum.Bare.{sameb}
 use Rattle.event.specs.Choice.{pick}
 use Rattle.event.specs.Outcome.{Outcome, ok, refused, check}
 use Rattle.event.proofs.ChoiceLaws.{by_test}
@@ -19,10 +19,9 @@ use Rattle.midicsv.proofs.FieldPartLaws.{FineSeen}
 use Rattle.midicsv_scan.specs.Part.{EndWithin, ending, seen_of, turn_as, Turned, text_as}
 use Rattle.midicsv_scan.specs.declared.Look.{Look}
 use Rattle.midicsv_scan.specs.declared.Look.TheVariants.{Plain, Quote, Slash, One, Two}
-use Rattle.midicsv_scan.specs.declared.PartEnd.TheVariants.{At, Nowhere}
+use Rattle.midicsv_scan.specs.contracts.Look.{the_type}
 use Rattle.midicsv_scan.specs.declared.Turn.{Turn}
 use Rattle.midicsv_scan.specs.declared.Turn.TheVariants.{On, Ended, Broken}
-use Rattle.midicsv_scan.specs.contracts.Look.{the_type}
 use Rattle.midicsv_scan.proofs.UnquotedLaws.{unquoted_is}
 
 -- ---- where a text ends
@@ -85,17 +84,19 @@ module _ (c : ℕ) where
   unfolding turn_as seen_of read_quoted pick
   slash_slash e l = rw (eq-eqb c 92 e) (sym (ending_push 92 (read_quoted l plain)))
 
-  pub slash_other : (c ≡ 92 → ⊥) → is_octal c ≡ false → Turned Slash c Broken
-  unfolding turn_as seen_of read_quoted pick check ending
-  slash_other n t l = rw (ne_eqb c 92 n, t)
+  pub slash_low : (c ≡ 92 → ⊥) → c < 48 → Turned Slash c Broken
+  unfolding turn_as seen_of read_quoted is_octal pick check ending
+  slash_low n h l = rw (ne_eqb c 92 n, lt-leb 48 c h)
 
-  pub slash_high : (c ≡ 92 → ⊥) → is_octal c ≡ true → 51 < c → Turned Slash c Broken
+  pub slash_high : (c ≡ 92 → ⊥) → 51 < c → Turned Slash c Broken
   unfolding turn_as seen_of read_quoted pick check ending
-  slash_high n t h l = rw (ne_eqb c 92 n, t, lt-leb c 51 h)
+  slash_high n h l = by_test (is_octal c) (λ t. rw (ne_eqb c 92 n, t, lt-leb c 51 h)) (λ t. rw (ne_eqb c 92 n, t))
 
-  pub slash_octal : (c ≡ 92 → ⊥) → is_octal c ≡ true → c ≤ 51 → Turned Slash c (On One)
-  unfolding turn_as seen_of read_quoted pick check
-  slash_octal n t h l = rw (ne_eqb c 92 n, t, le-leb c 51 h) (ending_one l (c - 48))
+  pub slash_octal : (c ≡ 92 → ⊥) → 48 ≤ c → c ≤ 51 → Turned Slash c (On One)
+  unfolding turn_as seen_of read_quoted is_octal pick check
+  slash_octal n d h l =
+      let m : c ≤ 55 = omega arith in
+      rw (ne_eqb c 92 n, le-leb 48 c d, le-leb c 55 m, le-leb c 51 h) (ending_one l (c - 48))
 
   pub one_octal : is_octal c ≡ true → Turned One c (On Two)
   unfolding turn_as seen_of read_quoted check
@@ -125,30 +126,36 @@ unfolding seen_of
 reading_first l at h = record { low = omega arith; high = h; same = refl }
 
 module _ (l : List ℕ) (at p : ℕ) where
-  ended_text : ending (read_quoted (drop at l) plain) ≡ ok 0 (drop p l) → text_as l at (At p) ≡ read_quoted (drop at l) plain
+  ended_text : ending (read_quoted (drop at l) plain) ≡ ok 0 (drop p l) → text_as l at (Some p) ≡ read_quoted (drop at l) plain
   unfolding text_as FineSeen
   ended_text e =
       let (d, q) = ending_ok (read_quoted (drop at l) plain) (drop p l) e in
       ap (λ x. ok x (drop p l)) (unquoted_is (drop at l) plain d (drop p l) tt q) ∙ sym q
 
-  broken_text : ending (read_quoted (drop at l) plain) ≡ refused 22 0 → text_as l at Nowhere ≡ read_quoted (drop at l) plain
+  broken_text : ending (read_quoted (drop at l) plain) ≡ refused 22 0 → text_as l at None ≡ read_quoted (drop at l) plain
   unfolding text_as
   broken_text e = sym (ending_refused (read_quoted (drop at l) plain) e)
 
-last_quote : ending (read_quoted [] (seen_of Quote)) ≡ ok 0 []
+-- the end of the line ends a text after a quote only
+last_quote : (look : Look) → true ≡ sameb the_type look Quote → ending (read_quoted [] (seen_of look)) ≡ ok 0 []
 unfolding seen_of read_quoted ending
-last_quote = refl
+last_quote Plain h = cc
+last_quote Quote h = refl
+last_quote Slash h = cc
+last_quote One h = cc
+last_quote Two h = cc
 
-abbrev unclosed : List ℕ
-unclosed = 0 ∷ 2 ∷ 3 ∷ 4 ∷ []
-
-last_other : (look : Look) → OneOf unclosed (tag_of the_type look) → ending (read_quoted [] (seen_of look)) ≡ refused 22 0
+last_other : (look : Look) → false ≡ sameb the_type look Quote → ending (read_quoted [] (seen_of look)) ≡ refused 22 0
 unfolding seen_of read_quoted ending
 last_other Plain h = refl
-last_other Quote h = absurd (miss unclosed 1 tt h)
+last_other Quote h = cc
 last_other Slash h = refl
 last_other One h = refl
 last_other Two h = refl
+
+-- what is answered of a text's end
+abbrev pub TextAt : List ℕ → ℕ → Option ℕ → Type 0
+TextAt l at r = record { fact_1 : text_as l at r ≡ read_quoted (drop at l) plain; fact_2 : EndWithin l at r }
 
 module _ {l : List ℕ} {at p : ℕ} {look : Look} (g : Reading l at look p) where
   module _ (h : p < length l) (r : Turn) (t : Turned look (get_or l p 0) r) where
@@ -161,22 +168,29 @@ module _ {l : List ℕ} {at p : ℕ} {look : Look} (g : Reading l at look p) whe
         let low = g.low in
         record { low = omega arith; high = omega arith; same = turned ∙ ap (turn_as (get_or l p 0) (drop (suc p) l)) e ∙ ap (λ i. ending (read_quoted (drop i l) (seen_of to))) (sym (add-one p)) }
 
-    pub reading_ended : r ≡ Ended → (text_as l at (At p) ≡ read_quoted (drop at l) plain) × EndWithin l at (At p)
+    pub reading_ended : r ≡ Ended → TextAt l at (Some p)
     unfolding turn_as
     reading_ended e =
-        (ended_text l at p (turned ∙ ap (turn_as (get_or l p 0) (drop (suc p) l)) e ∙ ap (ok 0) (sym (drop-cons l p 0 h))), (g.low, g.high))
+        record {
+          fact_1 = ended_text l at p (turned ∙ ap (turn_as (get_or l p 0) (drop (suc p) l)) e ∙ ap (ok 0) (sym (drop-cons l p 0 h)));
+          fact_2 = (g.low, g.high);
+        }
 
-    pub reading_broken : r ≡ Broken → (text_as l at Nowhere ≡ read_quoted (drop at l) plain) × EndWithin l at Nowhere
+    pub reading_broken : r ≡ Broken → TextAt l at None
     unfolding turn_as
-    reading_broken e = (broken_text l at p (turned ∙ ap (turn_as (get_or l p 0) (drop (suc p) l)) e), tt)
+    reading_broken e = record { fact_1 = broken_text l at p (turned ∙ ap (turn_as (get_or l p 0) (drop (suc p) l)) e); fact_2 = tt }
 
   module _ (h : length l ≤ p) where
     none_left : ending (read_quoted (drop at l) plain) ≡ ending (read_quoted [] (seen_of look))
     none_left = g.same ∙ ap (λ x. ending (read_quoted x (seen_of look))) (drop_of_length-le l h)
 
-    pub reading_last : look ≡ Quote → (text_as l at (At p) ≡ read_quoted (drop at l) plain) × EndWithin l at (At p)
+    pub reading_last : true ≡ sameb the_type look Quote → TextAt l at (Some (length l))
     reading_last e =
-        (ended_text l at p (none_left ∙ ap (λ x. ending (read_quoted [] (seen_of x))) e ∙ last_quote ∙ ap (ok 0) (sym (drop_of_length-le l h))), (g.low, g.high))
+        let low = g.low in
+        record {
+          fact_1 = ended_text l at (length l) (none_left ∙ last_quote look e ∙ ap (ok 0) (sym (drop_of_length-le l (omega arith))));
+          fact_2 = (omega arith, omega arith);
+        }
 
-    pub reading_cut : OneOf unclosed (tag_of the_type look) → (text_as l at Nowhere ≡ read_quoted (drop at l) plain) × EndWithin l at Nowhere
-    reading_cut e = (broken_text l at p (none_left ∙ last_other look e), tt)
+    pub reading_cut : false ≡ sameb the_type look Quote → TextAt l at None
+    reading_cut e = record { fact_1 = broken_text l at p (none_left ∙ last_other look e); fact_2 = tt }

@@ -1,5 +1,5 @@
 -- What the scanner's answers say of a line.
 pub mod Unquoted
-pub mod FieldStep
+pub mod FieldAt
 pub mod Part
 pub mod Cut

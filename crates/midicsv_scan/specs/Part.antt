@@ -1,15 +1,9 @@
 -- What the scanner's inner functions say of the parts of a line l, by the readers of document 01's fields.
-use Rattle.std.specs.Prelude.{◌≡◌, ℕ, ◌-◌, ◌≤◌, List, ◌∷◌, length, take, drop}
+use Rattle.std.specs.Prelude.{◌≡◌, ℕ, ◌-◌, ◌≤◌, List, ◌∷◌, length, take, drop, Option, Some, None}
 use Rattle.event.specs.Outcome.{Outcome, ok, refused, and_then}
 use Rattle.midicsv.specs.Field.{Field, num, name, quoted}
 use Rattle.midicsv.specs.ReadField.{skip, read_number, negative, Seen, plain, a_quote, a_slash, octal1, octal2, read_quoted, read_name, finish, read_field}
 use Rattle.midicsv_scan.specs.Unquoted.{unquoted}
-use Rattle.midicsv_scan.specs.declared.PartEnd.{PartEnd}
-use Rattle.midicsv_scan.specs.declared.PartEnd.TheVariants.{At, Nowhere}
-use Rattle.midicsv_scan.specs.declared.DigitRun.{DigitRun}
-use Rattle.midicsv_scan.specs.declared.DigitRun.TheVariants.{Digits, TooMany}
-use Rattle.midicsv_scan.specs.declared.NumberEnd.{NumberEnd}
-use Rattle.midicsv_scan.specs.declared.NumberEnd.TheVariants.{Value, NoNumber}
 use Rattle.midicsv_scan.specs.declared.Look.{Look}
 use Rattle.midicsv_scan.specs.declared.Look.TheVariants.{Plain, Quote, Slash, One, Two}
 use Rattle.midicsv_scan.specs.declared.Turn.{Turn}
@@ -18,19 +12,14 @@ use Rattle.midicsv_scan.specs.declared.Turn.TheVariants.{On, Ended, Broken}
 -- ---- places
 
 -- the places of an answer about the place at
-abbrev pub EndWithin : List ℕ → ℕ → PartEnd → Type 0
-EndWithin l at (At q) = (at ≤ q) × (q ≤ length l)
-EndWithin l at Nowhere = Unit {0}
+abbrev pub EndWithin : List ℕ → ℕ → Option ℕ → Type 0
+EndWithin l at (Some q) = (at ≤ q) × (q ≤ length l)
+EndWithin l at None = Unit {0}
 
--- of a run of digits
-abbrev pub DigitsWithin : List ℕ → ℕ → DigitRun → Type 0
-DigitsWithin l at (Digits value next) = (at ≤ next) × (next ≤ length l)
-DigitsWithin l at TooMany = Unit {0}
-
--- of a number
-abbrev pub NumberWithin : List ℕ → ℕ → NumberEnd → Type 0
-NumberWithin l at (Value value next) = (at ≤ next) × (next ≤ length l)
-NumberWithin l at NoNumber = Unit {0}
+-- of a run of digits, or of a number
+abbrev pub NumberWithin : List ℕ → ℕ → Option (ℕ × ℕ) → Type 0
+NumberWithin l at (Some (value, next)) = (at ≤ next) × (next ≤ length l)
+NumberWithin l at None = Unit {0}
 
 -- ---- blanks
 
@@ -42,15 +31,10 @@ pub record Skipped (l : List ℕ) (at p : ℕ) : Type 0 where
 
 -- ---- numbers
 
--- a run of digits and what follows it, or 22 for an 11th digit
-unfoldable pub digits_as : List ℕ → DigitRun → Outcome ℕ
-digits_as l (Digits value next) = ok value (drop next l)
-digits_as l TooMany = refused 22 0
-
--- a number and what follows it, or 22
-unfoldable pub number_as : List ℕ → NumberEnd → Outcome ℕ
-number_as l (Value value next) = ok value (drop next l)
-number_as l NoNumber = refused 22 0
+-- a run of digits, or a number, and what follows it; or 22
+unfoldable pub number_as : List ℕ → Option (ℕ × ℕ) → Outcome ℕ
+number_as l (Some (value, next)) = ok value (drop next l)
+number_as l None = refused 22 0
 
 -- ---- quoted texts
 
@@ -78,9 +62,9 @@ abbrev pub Turned : Look → ℕ → Turn → Type 0
 Turned look c r = (l : List ℕ) → turn_as c l r ≡ ending (read_quoted (c ∷ l) (seen_of look))
 
 -- the text from at on
-unfoldable pub text_as : List ℕ → ℕ → PartEnd → Outcome (List ℕ)
-text_as l at (At q) = ok (unquoted (drop at l) plain) (drop q l)
-text_as l at Nowhere = refused 22 0
+unfoldable pub text_as : List ℕ → ℕ → Option ℕ → Outcome (List ℕ)
+text_as l at (Some q) = ok (unquoted (drop at l) plain) (drop q l)
+text_as l at None = refused 22 0
 
 -- ---- names
 
@@ -93,12 +77,12 @@ pub record NameEnds (l : List ℕ) (at p : ℕ) : Type 0 where
 -- ---- fields
 
 -- the field f, closed at a place or not at all
-unfoldable pub closed_as : Field → List ℕ → PartEnd → Outcome Field
-closed_as f l (At q) = ok f (drop q l)
-closed_as f l Nowhere = refused 22 0
+unfoldable pub closed_as : Field → List ℕ → Option ℕ → Outcome Field
+closed_as f l (Some q) = ok f (drop q l)
+closed_as f l None = refused 22 0
 
 -- r is where a field that ends at `at` is closed: "Spaces and tabs round a field are dropped"
-abbrev pub Closes : List ℕ → ℕ → PartEnd → Type 0
+abbrev pub Closes : List ℕ → ℕ → Option ℕ → Type 0
 Closes l at r = (f : Field) → closed_as f l r ≡ finish f (drop at l)
 
 -- fieldOf's four readers
@@ -118,6 +102,6 @@ unfoldable pub name_field : List ℕ → Outcome Field
 name_field l = and_then (read_name l) (λ s r. finish (name s) r)
 
 -- some field from at on, and where it ends; or 22
-unfoldable pub FieldEnds : List ℕ → ℕ → PartEnd → Type 0
-FieldEnds l at (At q) = (f : Field) × (read_field (drop at l) ≡ ok f (drop q l))
-FieldEnds l at Nowhere = read_field (drop at l) ≡ refused 22 0
+unfoldable pub FieldEnds : List ℕ → ℕ → Option ℕ → Type 0
+FieldEnds l at (Some q) = (f : Field) × (read_field (drop at l) ≡ ok f (drop q l))
+FieldEnds l at None = read_field (drop at l) ≡ refused 22 0

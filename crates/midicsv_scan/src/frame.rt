@@ -4,19 +4,16 @@ ghost use Rattle.midicsv.specs.Lines.{trimmed, passed_over};
 ghost use Rattle.midicsv_scan.specs.Cut.{CutAt};
 
 use super::Cut;
-use midicsv::byte::is_blank;
+use super::ends::{past, skip_blanks};
 
 // The first line from a place on; its LF is not part of it.
 pub fn line_at(text: &[u8], at: usize) -> Cut
     requires { at < length text.now }
     ensures { CutAt text.now at result.end result.next }
 {
-    let mut end = at;
-    while end < text.len() {
-        if text[end] == 10 {
-            return Cut { end, next: end + 1 };
-        }
-        end = end + 1;
+    let end = past(text, at, |c| c != b'\n');
+    if end < text.len() {
+        return Cut { end, next: end + 1 };
     }
     Cut { end, next: end }
 }
@@ -25,30 +22,16 @@ pub fn line_at(text: &[u8], at: usize) -> Cut
 pub fn trim(line: &[u8]) -> &[u8]
     ensures { result.now ≡ trimmed line.now }
 {
-    let n = line.len();
-    if n == 0 {
-        return line;
+    match line {
+        [rest @ .., b'\r'] => rest,
+        _ => line,
     }
-    if line[n - 1] == 13 {
-        return &line[0..n - 1];
-    }
-    line
 }
 
 // Whether a line is a comment or has only blanks.
 pub fn passed_over(line: &[u8]) -> bool
     ensures { result ≡ passed_over line.now }
 {
-    let mut i: usize = 0;
-    while i < line.len() {
-        let c = line[i];
-        if !is_blank(c) {
-            if c == 35 {
-                return true;
-            }
-            return c == 59;
-        }
-        i = i + 1;
-    }
-    true
+    let p = skip_blanks(line, 0);
+    line.len() <= p || line[p] == b'#' || line[p] == b';'
 }

@@ -1,6 +1,9 @@
 // A line's fields: where they stand and what they are.
 #![tactic(auto)]
 
+ghost use Rattle.std.specs.Prelude.{◌≡◌};
+ghost use Rattle.midicsv_scan.specs.FieldAt.{next_of};
+
 mod number; // number.rt: numbers
 mod text; // text.rt: quoted texts
 mod ends; // ends.rt: blanks, names, and what closes a field
@@ -11,7 +14,7 @@ pub mod frame; // frame.rt: the lines of a text
 // A field: its value, or where it stands (a text from after its opening quote on); next is the
 // place of the comma after it, or the line's end.
 #[derive(Clone, Copy)]
-pub enum FieldStep {
+pub enum FieldAt {
     Number {
         value: u32,
         next: usize,
@@ -29,40 +32,25 @@ pub enum FieldStep {
         start: usize,
         next: usize,
     },
-    BadField,
 }
 
-// The number of the fields of a line.
-#[derive(Clone, Copy)]
-pub enum FieldCount {
-    Count(usize),
-    NoCount,
-}
-
-// The place where a part of a line ends, where the part is good.
-#[derive(Clone, Copy)]
-enum PartEnd {
-    At(usize),
-    Nowhere,
-}
-
-// A run of digits and the place after it; too many where an 11th follows.
-#[derive(Clone, Copy)]
-enum DigitRun {
-    Digits { value: u64, next: usize },
-    TooMany,
-}
-
-// A number and the place after it.
-#[derive(Clone, Copy)]
-enum NumberEnd {
-    Value { value: u32, next: usize },
-    NoNumber,
+impl FieldAt {
+    // The place after the field.
+    pub fn next(self) -> usize
+        ensures { result ≡ next_of self }
+    {
+        match self {
+            FieldAt::Number { next, .. }
+            | FieldAt::Minus { next, .. }
+            | FieldAt::Name { next, .. }
+            | FieldAt::Quoted { next, .. } => next,
+        }
+    }
 }
 
 // What has just been passed in a quoted text: nothing special, a quote, a backslash, or one or two
 // octal digits.
-#[derive(Clone, Copy)]
+#[derive(Clone, Copy, PartialEq, Eq)]
 enum Look {
     Plain,
     Quote,

@@ -1,22 +1,11 @@
-use Rattle.midicsv_scan.proofs.FieldLaws.{number_place, number_broken, number_open, number_is}
+use Rattle.midicsv_scan.proofs.FieldLaws.{number_broken, number_open, number_is}
 use Rattle.midicsv_scan.proofs.field.number_field.Goals as goal
 
-pub closed-requires : goal.closed-requires
-closed-requires c =
-    let a = c.args in
-    (number_place a.line.now a.at c.number_at.result _ _ c.in-Value.is c.number_at.ensures.fact_2).1
+pub returns-in_err-value : goal.returns-in_err-value
+returns-in_err-value c = rw c.from_residual.ensures (number_broken _ _ c.in_err-value.ensures.fact_1)
 
-pub returns-in-NoNumber : goal.returns-in-NoNumber
-returns-in-NoNumber c =
-    let a = c.args in
-    let h = number_broken a.line.now a.at c.number_at.result c.number_at.ensures.fact_1 c.in-NoNumber.is in record { fact_1 = h.0; fact_2 = h.1 }
+pub returns-in_err-next : goal.returns-in_err-next
+returns-in_err-next c = rw c.from_residual-in_err-next.ensures (number_open _ _ _ _ c.in_ok-value.ensures.fact_1 c.in_err-next.ensures.fact_1)
 
-pub returns-in-Nowhere : goal.returns-in-Nowhere
-returns-in-Nowhere c =
-    let a = c.args in
-    let h = number_open a.line.now a.at c.number_at.result c.number_at.ensures.fact_1 _ _ c.in-Value.is c.closed.result c.closed.ensures.fact_1 c.in-Nowhere.is in record { fact_1 = h.0; fact_2 = h.1 }
-
-pub returns-in-At : goal.returns-in-At
-returns-in-At c =
-    let a = c.args in
-    let h = number_is a.line.now a.at c.number_at.result c.number_at.ensures.fact_1 _ _ c.in-Value.is c.closed.result c.closed.ensures.fact_1 _ c.in-At.is c.number_at.ensures.fact_2 c.closed.ensures.fact_2 in record { fact_1 = h.0; fact_2 = h.1 }
+pub returns : goal.returns
+returns c = number_is _ _ _ _ c.in_ok-value.ensures.fact_1 _ c.in_ok-next.ensures.fact_1 c.in_ok-value.ensures.fact_2 c.in_ok-next.ensures.fact_2

@@ -1,10 +1,5 @@
-use Prim.Native.Nat.{◌-◌}
-use lib.ListN.{length}
-use Rattle.midicsv_scan.proofs.CutLaws.{Scanning}
+use Rattle.midicsv_scan.proofs.CutLaws.{in_line}
 use Rattle.midicsv_scan.proofs.frame.line_at.Given as goal
 
-abbrev pub invariant-loop-end : goal.invariant-loop-end
-invariant-loop-end l = Scanning l.text l.at l.end
-
-abbrev pub decreases-loop-end : goal.decreases-loop-end
-decreases-loop-end l = length l.text - l.end
+abbrev pub ghost-past : goal.ghost-past
+ghost-past a = in_line

@@ -7,25 +7,22 @@ pub loop-p-init : goal.loop-p-init
 loop-p-init c = going_first _ _ c.requires
 
 pub returns-then-not-is_digit : goal.returns-then-not-is_digit
-returns-then-not-is_digit c = let h = going_stop c.loop-p.invariant c.loop-p-test.true (sym c.is_digit.ensures ∙ c.if-not-is_digit.true) in record { fact_1 = h.0; fact_2 = h.1 }
+returns-then-not-is_digit c = going_stop c.loop-p.invariant c.loop-p-test.true (sym c.is_digit.ensures ∙ c.if-not-is_digit.true)
 
-pub returns-then-p-at-ge10 : goal.returns-then-p-at-ge10
-returns-then-p-at-ge10 c = let h = going_over c.loop-p.invariant c.loop-p-test.true (sym c.is_digit.ensures ∙ c.if-not-is_digit.false) c.if-p-at-ge10.true in record { fact_1 = h.0; fact_2 = h.1 }
+pub returns-then-p-at-ge-MOST_DIGITS : goal.returns-then-p-at-ge-MOST_DIGITS
+returns-then-p-at-ge-MOST_DIGITS c = going_over c.loop-p.invariant c.loop-p-test.true (sym c.is_digit.ensures ∙ c.if-not-is_digit.false) c.if-p-at-ge-MOST_DIGITS.true
 
 pub overflow_mul-value : goal.overflow_mul-value
 overflow_mul-value c = omega (arith, going_small c.loop-p.invariant)
 
-pub overflow_sub-value : goal.overflow_sub-value
-overflow_sub-value c = omega (arith, digit_range _ (sym c.is_digit.ensures ∙ c.if-not-is_digit.false))
-
-pub overflow_cast-value : goal.overflow_cast-value
-overflow_cast-value c = omega (arith, digit_range _ (sym c.is_digit.ensures ∙ c.if-not-is_digit.false))
+pub overflow_sub-c : goal.overflow_sub-c
+overflow_sub-c c = omega (arith, digit_range _ (sym c.is_digit.ensures ∙ c.if-not-is_digit.false))
 
 pub overflow_add-value : goal.overflow_add-value
 overflow_add-value c = omega (arith, going_small c.loop-p.invariant, digit_range _ (sym c.is_digit.ensures ∙ c.if-not-is_digit.false))
 
 pub loop-p-preserved : goal.loop-p-preserved
-loop-p-preserved c = going_on c.loop-p.invariant c.loop-p-test.true (sym c.is_digit.ensures ∙ c.if-not-is_digit.false) c.if-p-at-ge10.false
+loop-p-preserved c = rw c.from.ensures (going_on c.loop-p.invariant c.loop-p-test.true (sym c.is_digit.ensures ∙ c.if-not-is_digit.false) c.if-p-at-ge-MOST_DIGITS.false)
 
 pub returns : goal.returns
-returns c = let h = going_end c.loop-p.invariant c.loop-p-test.false in record { fact_1 = h.0; fact_2 = h.1 }
+returns c = going_end c.loop-p.invariant c.loop-p-test.false

@@ -1,20 +1,29 @@
-use Rattle.midicsv_scan.proofs.NumberLaws.{digits_place, number_none, number_other, number_many, number_large, number_is}
-use mathlib.Core.Path.{sym, ◌∙◌}
+use Rattle.midicsv_scan.proofs.NumberLaws.{number_none, number_other, number_many, number_large, number_is}
+use mathlib.Core.Path.{◌≡◌, sym}
+use Prim.Native.Nat.{◌≤◌, ◌<◌}
+use native.Mathlib.Omega.{arith}
 use Rattle.midicsv_scan.proofs.number.number_at.Goals as goal
+use Rattle.midicsv_scan.proofs.number.number_at.Goals.{then-line-at-via-then-line-at, then-line-at-via-else-line-at+then-not-is_digit}
 
 pub returns-then-line-at : goal.returns-then-line-at
-returns-then-line-at c = record { fact_1 = number_none _ _ c.if-line-at.true; fact_2 = tt }
+returns-then-line-at c =
+    elim c.then-line-at.branch [
+      | then-line-at-via-then-line-at w ↦ record { fact_1 = number_none _ _ w.if-line-at.true; fact_2 = tt }
+      | then-line-at-via-else-line-at+then-not-is_digit w ↦ record { fact_1 = number_other _ _ w.if-line-at.false (sym w.if-not-is_digit.ensures); fact_2 = tt }
+    ]
 
-pub returns-then-not-is_digit : goal.returns-then-not-is_digit
-returns-then-not-is_digit c = record { fact_1 = number_other _ _ c.if-line-at.false (sym c.is_digit.ensures ∙ c.if-not-is_digit.true); fact_2 = tt }
+pub returns-in_err-value : goal.returns-in_err-value
+returns-in_err-value c = rw c.from_residual.ensures (record { fact_1 = number_many _ _ c.if-line-at.false (sym c.if-not-is_digit.ensures) c.in_err-value.ensures.fact_1; fact_2 = tt })
 
-pub returns-then-value-gt4294967295 : goal.returns-then-value-gt4294967295
-returns-then-value-gt4294967295 c = record { fact_1 = number_large _ _ c.if-line-at.false (sym c.is_digit.ensures ∙ c.if-not-is_digit.false) c.in-Digits.is c.digits.ensures.fact_1 c.if-value-gt4294967295.true; fact_2 = tt }
+pub returns-in_err-ok : goal.returns-in_err-ok
+returns-in_err-ok c =
+    let m : 4294967295 < c.in_ok-value.value = grind arith in
+    let n = number_large _ _ c.if-line-at.false (sym c.if-not-is_digit.ensures) _ _ c.in_ok-value.ensures.fact_1 m in
+    rw c.from_residual-in_err-ok.ensures (record { fact_1 = n; fact_2 = tt })
 
-pub returns-in-TooMany : goal.returns-in-TooMany
-returns-in-TooMany c = record { fact_1 = number_many _ _ c.if-line-at.false (sym c.is_digit.ensures ∙ c.if-not-is_digit.false) c.in-TooMany.is c.digits.ensures.fact_1; fact_2 = tt }
-
-pub returns-else-value-gt4294967295 : goal.returns-else-value-gt4294967295
-returns-else-value-gt4294967295 c =
-    let a = c.args in
-    record { fact_1 = number_is _ _ c.if-line-at.false (sym c.is_digit.ensures ∙ c.if-not-is_digit.false) c.in-Digits.is c.digits.ensures.fact_1 c.if-value-gt4294967295.false; fact_2 = digits_place a.line.now a.at c.digits.result _ _ c.in-Digits.is c.digits.ensures.fact_2 }
+pub returns : goal.returns
+returns c =
+    let m : c.in_ok-value.value ≤ 4294967295 = grind arith in
+    let e : c.in_ok-ok.field-0 ≡ c.in_ok-value.value = grind arith in
+    let n = number_is _ _ c.if-line-at.false (sym c.if-not-is_digit.ensures) _ _ c.in_ok-value.ensures.fact_1 m in
+    record { fact_1 = rw e n; fact_2 = c.in_ok-value.ensures.fact_2 }
