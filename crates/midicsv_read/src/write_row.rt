@@ -14,7 +14,7 @@ use event_write::bytes::put_byte;
 use midicsv_record::body::after_comma;
 use midicsv_record::text::text_step;
 use midicsv_record::{Row, TextState, TextStep};
-use midicsv_scan::FieldStep;
+use midicsv_scan::FieldAt;
 use midicsv_scan::field::field_at;
 
 // A number as a byte.
@@ -176,22 +176,15 @@ fn put_quoted(out: &mut [u8], at: usize, line: &[u8], start: usize) -> usize
     ensures { Written out.old at (unquoted (drop start line.now) plain) out.new result }
 {
     let mut next = at;
-    let mut i = start;
     let mut passed = TextState::Plain;
-    while i < line.len() {
-        let c = line[i];
-        i = i + 1;
-        match text_step(passed, c) {
-            TextStep::Nothing(seen) => {
-                passed = seen;
-            }
+    for c in &line[start..] {
+        match text_step(passed, *c) {
+            TextStep::Nothing(seen) => passed = seen,
             TextStep::Byte(b, seen) => {
                 next = put_byte(out, next, b);
                 passed = seen;
             }
-            TextStep::Closed => {
-                return next;
-            }
+            TextStep::Closed => return next,
         }
     }
     next
@@ -202,27 +195,19 @@ fn data_at(line: &[u8], at: usize) -> DataStep
     requires { at ≤ length line.now }
     ensures { DataIs line.now at result }
 {
-    match field_at(line, at) {
-        FieldStep::Number { value, next } => DataStep {
-            byte: (value % 256) as u8,
-            next: after_comma(line, next),
-        },
-        FieldStep::Minus { next, .. } => DataStep {
-            byte: 0,
-            next: after_comma(line, next),
-        },
-        FieldStep::Name { next, .. } => DataStep {
-            byte: 0,
-            next: after_comma(line, next),
-        },
-        FieldStep::Quoted { next, .. } => DataStep {
-            byte: 0,
-            next: after_comma(line, next),
-        },
-        FieldStep::BadField => DataStep {
+    let Some(field) = field_at(line, at) else {
+        return DataStep {
             byte: 0,
             next: line.len(),
+        };
+    };
+    let next = after_comma(line, field.next());
+    match field {
+        FieldAt::Number { value, .. } => DataStep {
+            byte: byte(value),
+            next,
         },
+        _ => DataStep { byte: 0, next },
     }
 }
 
@@ -236,12 +221,10 @@ fn put_data(out: &mut [u8], at: usize, line: &[u8], start: usize, len: usize) ->
 {
     let mut next = at;
     let mut place = start;
-    let mut left = len;
-    while 0 < left {
+    for _ in 0..len {
         let step = data_at(line, place);
         next = put_byte(out, next, step.byte);
         place = step.next;
-        left = left - 1;
     }
     next
 }

@@ -20,12 +20,12 @@ use Rattle.midicsv.specs.ReadField.{read_field}
 use Rattle.midicsv.specs.Result.{good, bad, test}
 use Rattle.midicsv.specs.ReadRecord.{size_of, read_column}
 use Rattle.midicsv.proofs.FieldPartLaws.{field_part}
-use Rattle.midicsv_scan.specs.FieldStep.{field_as}
-use Rattle.midicsv_scan.specs.declared.FieldStep.{FieldStep}
+use Rattle.midicsv_scan.specs.FieldAt.{field_as, next_of}
+use Rattle.midicsv_scan.specs.declared.FieldAt.{FieldAt}
 use Rattle.midicsv_record.specs.Row.{byte_in, after_field, data_from}
 use Rattle.midicsv_record.specs.Column.{field_in, value_as}
-use Rattle.midicsv_record.specs.InTurn.{field_after, fitting, column_after, data_after, tail_after, at_end, last_after, place_after, DataEnd}
-use Rattle.midicsv_record.proofs.InTurnLaws.{field_fits, column_fits, then_then}
+use Rattle.midicsv_record.specs.InTurn.{field_after, fitting, column_after, data_after, tail_after, at_end, last_after, DataEnd}
+use Rattle.midicsv_record.proofs.InTurnLaws.{field_fits, column_fits, column_missing, then_then}
 
 -- ---- after a comma
 
@@ -73,17 +73,19 @@ unfolding DataEnd data_after and_then
 data_none n r e = rw (← e) refl
 
 -- the answer on all is that on those that are left from at on, of which the field g is the first
-module _ (P : Bool → Type 0) (l : List ℕ) (at left : ℕ) (f : FieldStep) (inv : (b : Bool) → DataEnd (suc left) (drop at l) b → P b)
-    (e : field_as l f ≡ field_after (drop at l)) where
-  pub data_on : (o : Option ℕ) → value_as o ≡ read_column (range 0 255) (field_in l f) → is_some o ≡ true → (b : Bool) → DataEnd left (drop (place_after f) l) b → P b
+module _ (P : Bool → Type 0) (l : List ℕ) (at left : ℕ) (inv : (b : Bool) → DataEnd (suc left) (drop at l) b → P b) where
+  pub data_on : (f : FieldAt) → field_as l (Some f) ≡ field_after (drop at l) → (o : Option ℕ) → value_as o ≡ read_column (range 0 255) (field_in l f) → is_some o ≡ true → (b : Bool) → DataEnd left (drop (next_of f) l) b → P b
   unfolding fitting value_as
-  data_on (Some v) h n b d = inv b (data_more left v (drop at l) (drop (place_after f) l) b (rw (← h) at (column_fits (range 0 255) l (drop at l) f e)) d)
-  data_on None h n b d = absurd (false≢true n)
+  data_on f e (Some v) h n b d = inv b (data_more left v (drop at l) (drop (next_of f) l) b (rw (← h) at (column_fits (range 0 255) l (drop at l) f e)) d)
+  data_on f e None h n b d = absurd (false≢true n)
 
-  pub data_off : (o : Option ℕ) → value_as o ≡ read_column (range 0 255) (field_in l f) → is_some o ≡ false → P false
+  pub data_off : (f : FieldAt) → field_as l (Some f) ≡ field_after (drop at l) → (o : Option ℕ) → value_as o ≡ read_column (range 0 255) (field_in l f) → is_some o ≡ false → P false
   unfolding fitting value_as
-  data_off (Some v) h n = absurd (false≢true (sym n))
-  data_off None h n = inv false (data_none left (drop at l) (rw (← h) at (column_fits (range 0 255) l (drop at l) f e)))
+  data_off f e (Some v) h n = absurd (false≢true (sym n))
+  data_off f e None h n = inv false (data_none left (drop at l) (rw (← h) at (column_fits (range 0 255) l (drop at l) f e)))
+
+  pub data_missing : refused 22 0 ≡ field_after (drop at l) → P false
+  data_missing e = inv false (data_none left (drop at l) (column_missing (range 0 255) (drop at l) e))
 
 pub data_done : (l : List ℕ) (at : ℕ) → DataEnd 0 (drop at l) (leb (length l) at)
 unfolding DataEnd data_after and_then
@@ -130,14 +132,19 @@ data_are (suc n) r d t b e =
 -- ---- Length and Data
 
 -- by the number w that the code has for the Length
-pub size_fits : (l r : List ℕ) (f : FieldStep) (v : Option ℕ) → field_as l f ≡ field_after r → value_as v ≡ size_of (field_in l f)
-    → and_then (fitting (value_as v) (drop (place_after f) l)) (λ n t. data_to_end n t) ≡ last_after sized r
+pub size_fits : (l r : List ℕ) (f : FieldAt) (v : Option ℕ) → field_as l (Some f) ≡ field_after r → value_as v ≡ size_of (field_in l f)
+    → and_then (fitting (value_as v) (drop (next_of f) l)) (λ n t. data_to_end n t) ≡ last_after sized r
 unfolding last_after tail_after size_of
 size_fits l r f v e z =
     rw z (
-    ap (λ m. and_then m (λ n t. data_to_end n t)) (field_fits size_of l r f refl e)
+    ap (λ m. and_then m (λ n t. data_to_end n t)) (field_fits size_of l r f e)
     ∙ sym (then_then (and_then (field_after r) (λ x q. fitting (size_of x) q)) (λ n t. data_after n t) (λ d q. at_end d q))
     ∙ ap (λ m. and_then m (λ d q. at_end d q)) (then_then (field_after r) (λ x q. fitting (size_of x) q) (λ n t. data_after n t)))
+
+-- no Length
+pub size_missing : (r : List ℕ) → refused 22 0 ≡ field_after r → refused 22 0 ≡ last_after sized r
+unfolding last_after tail_after and_then
+size_missing r e = rw (← e) refl
 
 -- Data that are read to the end
 pub data_good : (l : List ℕ) (n q start : ℕ) → Bytes l → DataEnd n (drop q l) true → drop start l ≡ drop (q + 1) l

@@ -1,6 +1,6 @@
 -- Fields and columns read in turn.
 use mathlib.Core.Path.{◌≡◌, refl, sym, ◌∙◌, ap}
-use Rattle.std.specs.Prelude.{Option}
+use Rattle.std.specs.Prelude.{Option, Some}
 use Prim.Native.Nat.{ℕ, zero, suc, ◌+◌, ◌-◌, ◌<◌, ◌≤◌}
 use mathlib.Core.List.{List, [], ◌∷◌, ◌++◌, append_assoc, append-nil}
 use native.Mathlib.Omega.{arith}
@@ -14,47 +14,51 @@ use Rattle.midicsv.specs.Field.{Field, name}
 use Rattle.midicsv.specs.Table.{Column, range, key, mode, free_type, division}
 use Rattle.midicsv.specs.Result.{Result, bad, next}
 use Rattle.midicsv.specs.ReadRecord.{read_signed, read_column}
-use Rattle.midicsv_scan.specs.FieldStep.{field_as}
-use Rattle.midicsv_scan.specs.declared.FieldStep.{FieldStep}
-use Rattle.midicsv_scan.specs.declared.FieldStep.TheVariants.{Number, Minus, Name, Quoted, BadField}
+use Rattle.midicsv_scan.specs.FieldAt.{field_as, next_of}
+use Rattle.midicsv_scan.specs.declared.FieldAt.{FieldAt}
+use Rattle.midicsv_scan.specs.declared.FieldAt.TheVariants.{Number, Minus, Name, Quoted}
 use Rattle.midicsv_record.specs.Column.{field_in, value_as}
 use Rattle.midicsv_record.specs.Table.{column_as, read_first}
-use Rattle.midicsv_record.specs.InTurn.{field_after, fitting, column_after, columns_after, place_after, first_after}
+use Rattle.midicsv_record.specs.InTurn.{field_after, fitting, column_after, columns_after, first_after}
 use Rattle.midicsv_record.specs.declared.ColumnKind.{ColumnKind}
 
 -- ---- a field
 
--- the value that g gives of a field; the field that stands for none must fit no g
-pub field_fits : {A : Type 0} (g : Field → Result A) (l r : List ℕ) (f : FieldStep) → g (name []) ≡ bad 25 → field_as l f ≡ field_after r
-    → fitting (g (field_in l f)) (drop (place_after f) l) ≡ and_then (field_after r) (λ x q. fitting (g x) q)
-unfolding field_as place_after value_or and_then fitting
-field_fits g l r (Number value next) b e = rw (← e) refl
-field_fits g l r (Minus value next) b e = rw (← e) refl
-field_fits g l r (Name start end next) b e = rw (← e) refl
-field_fits g l r (Quoted start next) b e = rw (← e) refl
-field_fits g l r BadField b e = rw (← e, b) refl
+-- the value that g gives of a field
+pub field_fits : {A : Type 0} (g : Field → Result A) (l r : List ℕ) (f : FieldAt) → field_as l (Some f) ≡ field_after r
+    → fitting (g (field_in l f)) (drop (next_of f) l) ≡ and_then (field_after r) (λ x q. fitting (g x) q)
+unfolding field_as value_or and_then fitting
+field_fits g l r (Number value next) e = rw (← e) refl
+field_fits g l r (Minus value next) e = rw (← e) refl
+field_fits g l r (Name start end next) e = rw (← e) refl
+field_fits g l r (Quoted start next) e = rw (← e) refl
+
+-- no field
+pub none_after : {A : Type 0} (r : List ℕ) (k : Field → List ℕ → Outcome A) → refused 22 0 ≡ field_after r → refused 22 0 ≡ and_then (field_after r) k
+unfolding and_then
+none_after r k e = rw (← e) refl
 
 -- ---- a column
 
--- a name fits no column
-name_misfits : (c : Column) (s : List ℕ) → read_column c (name s) ≡ bad 25
-unfolding read_column read_signed next
-name_misfits (range lo hi) s = refl
-name_misfits key s = refl
-name_misfits mode s = refl
-name_misfits free_type s = refl
-name_misfits division s = refl
-
-pub column_fits : (c : Column) (l r : List ℕ) (f : FieldStep) → field_as l f ≡ field_after r → fitting (read_column c (field_in l f)) (drop (place_after f) l) ≡ column_after c r
+pub column_fits : (c : Column) (l r : List ℕ) (f : FieldAt) → field_as l (Some f) ≡ field_after r → fitting (read_column c (field_in l f)) (drop (next_of f) l) ≡ column_after c r
 unfolding column_after
-column_fits c l r f e = field_fits (read_column c) l r f (name_misfits c []) e
+column_fits c l r f e = field_fits (read_column c) l r f e
+
+pub column_missing : (c : Column) (r : List ℕ) → refused 22 0 ≡ field_after r → refused 22 0 ≡ column_after c r
+unfolding column_after
+column_missing c r e = none_after r _ e
 
 -- the first of the columns, of which there is one, by the column k that the code has for it
-pub first_fits : (cs : List Column) (l r : List ℕ) (k : ColumnKind) (f : FieldStep) (v : Option ℕ) → 0 < length cs → column_as k ≡ take 1 cs → field_as l f ≡ field_after r
-    → value_as v ≡ read_first (column_as k) (field_in l f) → fitting (value_as v) (drop (place_after f) l) ≡ first_after cs r
+pub first_fits : (cs : List Column) (l r : List ℕ) (k : ColumnKind) (f : FieldAt) (v : Option ℕ) → 0 < length cs → column_as k ≡ take 1 cs → field_as l (Some f) ≡ field_after r
+    → value_as v ≡ read_first (column_as k) (field_in l f) → fitting (value_as v) (drop (next_of f) l) ≡ first_after cs r
 unfolding read_first first_after
 first_fits [] l r k f v h s e z = absurd (omega arith)
 first_fits (c ∷ cs) l r k f v h s e z = rw (z, s) (column_fits c l r f e)
+
+pub first_missing : (cs : List Column) (r : List ℕ) → 0 < length cs → refused 22 0 ≡ field_after r → refused 22 0 ≡ first_after cs r
+unfolding first_after
+first_missing [] r h e = absurd (omega arith)
+first_missing (c ∷ cs) r h e = column_missing c r e
 
 -- ---- all columns
 

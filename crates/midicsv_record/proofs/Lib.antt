@@ -4,6 +4,7 @@ mod ColumnLaws
 pub mod TextLaws
 mod WordLaws
 mod FieldInLaws
+mod OtherFieldLaws
 mod FiveLaws
 mod InTurnLaws
 pub mod BodyLaws

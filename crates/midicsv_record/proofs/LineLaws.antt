@@ -16,13 +16,13 @@ use Rattle.midicsv.specs.Result.{Result, good, bad, next, test}
 use Rattle.midicsv.specs.Names.{same_name, find, name_from}
 use Rattle.smf.specs.Piece.{tracks_fit}
 use Rattle.midicsv.specs.ReadRecord.{size_of, counted, together, record_of, of_fields, read_line}
-use Rattle.midicsv_scan.specs.FieldStep.{Counted, FieldIs}
+use Rattle.midicsv_scan.specs.FieldAt.{Counted, FieldIs}
 use Rattle.midicsv_record.specs.Row.{name_at, name_as}
 use Rattle.midicsv_record.specs.Table.{columns_at, tail_at}
 use Rattle.midicsv_record.specs.Column.{field_in, fields_in, later_in}
 use Rattle.midicsv_record.specs.Line.{Fields, size_in, values_of, row_in, named_in}
-use Rattle.midicsv_scan.specs.declared.FieldStep.{FieldStep}
-use Rattle.midicsv_scan.specs.declared.FieldCount.TheVariants.{Count}
+use Rattle.midicsv_scan.specs.declared.FieldAt.{FieldAt}
+use Rattle.std.specs.Prelude.{Some}
 use Rattle.midicsv_record.proofs.FieldInLaws.{field_in_lem}
 
 -- the Header alone asks for more
@@ -83,7 +83,7 @@ fields_are : (l : List ℕ) (fs : List Field) → all_fields l ≡ ok fs [] → 
 unfolding value_or
 fields_are l fs e = rw e refl
 
-pub fields_count : (l : List ℕ) (count : ℕ) → Counted l (Count count) → 3 ≤ count → Fields l count
+pub fields_count : (l : List ℕ) (count : ℕ) → Counted l (Some count) → 3 ≤ count → Fields l count
 unfolding Counted
 fields_count l count (fs, e, h) k = let z = fields_are l fs e in record { fields = rw z e; counts = rw z h; three = k }
 
@@ -94,7 +94,7 @@ few_fields (a ∷ []) h = refl
 few_fields (a ∷ b ∷ []) h = refl
 few_fields (a ∷ b ∷ c ∷ fs) h = absurd (omega arith)
 
-pub line_few : (l : List ℕ) (count : ℕ) → Counted l (Count count) → count < 3 → bad 24 ≡ read_line l
+pub line_few : (l : List ℕ) (count : ℕ) → Counted l (Some count) → count < 3 → bad 24 ≡ read_line l
 unfolding Counted read_line of_fields
 line_few l count (fs, e, h) k = rw e (few_fields fs (omega arith))
 
@@ -110,10 +110,5 @@ line_named : (l : List ℕ) (count : ℕ) → Fields l count → read_line l ≡
 unfolding read_line of_fields named_in
 line_named l count a = ap of_fields a.fields ∙ record_named (fields_in l) (omega (arith, a.counts, a.three))
 
-pub third_named : (l : List ℕ) (count : ℕ) → Fields l count → (r : FieldStep) → FieldIs l 2 r → read_line l ≡ named_in l (name_from (field_in l r))
+pub third_named : (l : List ℕ) (count : ℕ) → Fields l count → (r : FieldAt) → FieldIs l 2 (Some r) → read_line l ≡ named_in l (name_from (field_in l r))
 third_named l count a r f = line_named l count a ∙ ap (λ x. named_in l (name_from x)) (sym (field_in_lem l 2 r a.fields (omega (arith, a.counts, a.three)) f))
-
--- the name of no letters is not listed
-pub no_name : name_from (name []) ≡ bad 23
-unfolding name_from find same_name spelled event_spelled pick
-no_name = refl

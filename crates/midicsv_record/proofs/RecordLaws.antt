@@ -1,19 +1,21 @@
 -- The record of a line from its parts, read in turn.
 use mathlib.Core.Path.{◌≡◌, refl}
-use Rattle.std.specs.Prelude.{Option}
+use Rattle.std.specs.Prelude.{Option, Some}
 use Prim.Native.Nat.{ℕ}
 use mathlib.Core.Bool.{true, false}
 use mathlib.Core.List.{List, [], ◌∷◌}
 use lib.ListN.{drop}
-use Rattle.event.specs.Outcome.{ok, refused, and_then}
+use Rattle.event.specs.Outcome.{ok, refused, and_then, value_or}
 use Rattle.midicsv.specs.Table.{Column}
-use Rattle.midicsv.specs.Result.{test}
+use Rattle.midicsv.specs.Result.{bad, test}
+use Rattle.midicsv.specs.Names.{name_from}
 use Rattle.midicsv.specs.ReadRecord.{read_column, together, with_values}
-use Rattle.midicsv_scan.specs.FieldStep.{field_as}
-use Rattle.midicsv_scan.specs.declared.FieldStep.{FieldStep}
+use Rattle.midicsv_scan.specs.FieldAt.{field_as, next_of}
+use Rattle.midicsv_scan.specs.declared.FieldAt.{FieldAt}
+use Rattle.midicsv_scan.specs.declared.FieldAt.TheVariants.{Number, Minus, Name, Quoted}
 use Rattle.midicsv_record.specs.Row.{name_at, body_in, columns_in, record_in}
 use Rattle.midicsv_record.specs.Table.{columns_at, tail_at}
-use Rattle.midicsv_record.specs.InTurn.{field_after, fitting, column_after, columns_after, last_after, values_after, named_after, place_after}
+use Rattle.midicsv_record.specs.InTurn.{field_after, fitting, column_after, columns_after, last_after, values_after, named_after, record_after}
 use Rattle.midicsv_record.specs.Column.{field_in, value_as}
 use Rattle.midicsv_record.specs.declared.Row.{Row}
 use Rattle.midicsv_record.proofs.InTurnLaws.{column_fits}
@@ -43,9 +45,17 @@ module _ (l : List ℕ) (row : Row) (r q : List ℕ) (e : ok (columns_in row) q 
   unfolding named_after values_after and_then fitting with_values test
   named_apart t = rw (← e, ← f, together_cut (name_at row.name) row.columns, ← t) refl
 
+-- a third field that is no name
+pub after_no_name : (track time : ℕ) (l r : List ℕ) (f : FieldAt) → field_as l (Some f) ≡ field_after r → bad 23 ≡ name_from (field_in l f) → refused 22 0 ≡ record_after track time r
+unfolding record_after fitting and_then field_as value_or
+after_no_name track time l r (Number v q) e n = rw (← e, ← n) refl
+after_no_name track time l r (Minus v q) e n = rw (← e, ← n) refl
+after_no_name track time l r (Name s d q) e n = rw (← e, ← n) refl
+after_no_name track time l r (Quoted s q) e n = rw (← e, ← n) refl
+
 -- ---- Track and Time
 
 -- the number that the code found in a field
-pub column_told : (c : Column) (l r : List ℕ) (f : FieldStep) (v : Option ℕ) → field_as l f ≡ field_after r → value_as v ≡ read_column c (field_in l f)
-    → fitting (value_as v) (drop (place_after f) l) ≡ column_after c r
+pub column_told : (c : Column) (l r : List ℕ) (f : FieldAt) (v : Option ℕ) → field_as l (Some f) ≡ field_after r → value_as v ≡ read_column c (field_in l f)
+    → fitting (value_as v) (drop (next_of f) l) ≡ column_after c r
 column_told c l r f v e z = rw z (column_fits c l r f e)

@@ -13,9 +13,11 @@ use Rattle.midicsv.specs.Result.{Result, good, bad, next, test}
 use Rattle.midicsv.specs.Names.{name_from}
 use Rattle.midicsv.specs.ReadRecord.{counted, read_signed, read_column, read_bytes, read_text, read_tail, read_columns, with_values, read_line}
 use Rattle.midicsv.proofs.ResultLaws.{test_good}
-use Rattle.midicsv_scan.specs.FieldStep.{Counted, FieldIs}
-use Rattle.midicsv_scan.specs.declared.FieldStep.{FieldStep}
-use Rattle.midicsv_scan.specs.declared.FieldCount.TheVariants.{Count}
+use Rattle.midicsv_scan.specs.FieldAt.{Counted, FieldIs}
+use Rattle.midicsv_scan.specs.declared.FieldAt.{FieldAt}
+use Rattle.std.specs.Prelude.{Some, None}
+use Rattle.midicsv_record.proofs.OtherFieldLaws.{NotName, no_name}
+use Rattle.midicsv_record.proofs.FieldInLaws.{field_there}
 use Rattle.midicsv_record.specs.Row.{name_at, name_as}
 use Rattle.midicsv_record.specs.Table.{columns_at, tail_at}
 use Rattle.midicsv_record.specs.Column.{field_in, later_in}
@@ -130,6 +132,16 @@ only_range l n len h e r =
     refused_only (named_in l (name_as n)) (subst Only (size_right l n len h e) (values_only (name_at n) _ _ (later_in l) k)) r
 
 -- a line of three fields or more by the name that its third field gives, or 23
-pub third_is : (l : List ℕ) (count : ℕ) → Counted l (Count count) → 3 ≤ count → (r s : FieldStep) → FieldIs l 2 r → r ≡ s
-    → (m : Result RecordName) → m ≡ name_from (field_in l s) → named_in l m ≡ read_line l
-third_is l count e h r s f t m z = sym (third_named l count (fields_count l count e h) r f ∙ rw (t, ← z) refl)
+pub third_is : (l : List ℕ) (count : ℕ) → Counted l (Some count) → 3 ≤ count → (f : FieldAt) → FieldIs l 2 (Some f)
+    → (m : Result RecordName) → m ≡ name_from (field_in l f) → named_in l m ≡ read_line l
+third_is l count e h f t m z = sym (third_named l count (fields_count l count e h) f t ∙ rw (← z) refl)
+
+-- it has a third field
+pub third_there : {X : Type 0} (l : List ℕ) (count : ℕ) → Counted l (Some count) → 3 ≤ count → FieldIs l 2 None → X
+third_there l count e h t = let a = fields_count l count e h in field_there l 2 a.fields (omega (arith, a.counts, a.three)) t
+
+-- which is no name
+pub third_no_name : (l : List ℕ) (count : ℕ) → Counted l (Some count) → 3 ≤ count → (f : FieldAt) → FieldIs l 2 (Some f)
+    → NotName f → bad 23 ≡ read_line l
+unfolding named_in next
+third_no_name l count e h f t o = third_is l count e h f t (bad 23) (no_name l f o)

@@ -44,17 +44,20 @@ module _ (l : List ℕ) (count n : ℕ) (a : Fields l count) where
   unfolding size_in counted test
   size_missing e h = let k = later_count in rw (e, le-ltb (length (columns_at n)) (length (later_in l)) (omega arith)) refl
 
-  module _ (e : tail_at n ≡ sized) (h : 3 + length (columns_at n) < count) (x : Field) (f : x ≡ get_or (fields_in l) (3 + length (columns_at n)) (num 0)) where
-    length_field : get_or (later_in l) (length (columns_at n)) (num 0) ≡ x
-    length_field = get_or-drop 3 (fields_in l) (length (columns_at n)) (num 0) ∙ sym f
+  module _ (e : tail_at n ≡ sized) (h : 3 + length (columns_at n) < count) where
+    abbrev pub the_length : Field
+    the_length = get_or (fields_in l) (3 + length (columns_at n)) (num 0)
 
-    pub size_off : bad 25 ≡ size_of x → bad 25 ≡ size_in n (later_in l)
+    length_field : get_or (later_in l) (length (columns_at n)) (num 0) ≡ the_length
+    length_field = get_or-drop 3 (fields_in l) (length (columns_at n)) (num 0)
+
+    pub size_off : bad 25 ≡ size_of the_length → bad 25 ≡ size_in n (later_in l)
     unfolding size_in counted test next
     size_off z =
         let k = later_count in
         rw (e, lt-ltb (length (columns_at n)) (length (later_in l)) (omega arith), length_field, ← z) refl
 
-    pub size_sized : (v : ℕ) → good v ≡ size_of x → test (eqb count (3 + length (columns_at n) + 1 + v)) 24 (good 0) ≡ size_in n (later_in l)
+    pub size_sized : (v : ℕ) → good v ≡ size_of the_length → test (eqb count (3 + length (columns_at n) + 1 + v)) 24 (good 0) ≡ size_in n (later_in l)
     unfolding size_in counted test next
     size_sized v z =
         let k = later_count in

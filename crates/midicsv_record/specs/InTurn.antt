@@ -9,8 +9,6 @@ use Rattle.midicsv.specs.Names.{name_from}
 use Rattle.midicsv.specs.ReadField.{read_field}
 use Rattle.midicsv.specs.Result.{Result, good, bad}
 use Rattle.midicsv.specs.ReadRecord.{size_of, read_column, read_text, with_values}
-use Rattle.midicsv_scan.specs.declared.FieldStep.{FieldStep}
-use Rattle.midicsv_scan.specs.declared.FieldStep.TheVariants.{Number, Minus, Name, Quoted, BadField}
 use Rattle.midicsv_record.specs.Row.{body_in, record_in}
 use Rattle.midicsv_record.specs.declared.Cell.{Cell}
 use Rattle.midicsv_record.specs.declared.Columns.{Columns}
@@ -93,14 +91,6 @@ Agrees (ok x r) m = m ≡ good x
 Agrees (refused n p) m = Refused m
 
 -- ---- what the answers of the code say, of a line l
-
--- the place after a field: its comma's, or the line's end
-unfoldable pub place_after : FieldStep → ℕ
-place_after (Number value next) = next
-place_after (Minus value next) = next
-place_after (Name start end next) = next
-place_after (Quoted start next) = next
-place_after BadField = 0
 
 -- a number and what follows its field
 unfoldable pub cell_as : List ℕ → Option Cell → Outcome ℕ

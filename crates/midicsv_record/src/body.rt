@@ -5,28 +5,23 @@ ghost use Rattle.midicsv_record.specs.Table.{tail_at};
 ghost use Rattle.midicsv_record.specs.InTurn.{last_after, tail_step_as, TailInside, DataEnd};
 
 use super::column::{number_in, number_of};
-use super::in_turn::{field_after, place_after};
+use super::in_turn::field_after;
 use super::table::tail_kind;
 use super::{BodyPlace, TailKind};
-use midicsv_scan::FieldStep;
+use midicsv_scan::FieldAt;
 
 // A Text: the field after a comma must be quoted, and the last.
 fn text_after(line: &[u8], comma: usize) -> Option<BodyPlace>
     ensures fact_1 { tail_step_as one_text line.now result ≡ last_after one_text (drop comma line.now) }
     ensures fact_2 { TailInside line.now result }
 {
-    match field_after(line, comma) {
-        FieldStep::Number { .. } => None,
-        FieldStep::Minus { .. } => None,
-        FieldStep::Name { .. } => None,
-        FieldStep::Quoted { start, next } => {
-            if next < line.len() {
-                return None;
-            }
-            Some(BodyPlace { start, len: 0 })
-        }
-        FieldStep::BadField => None,
+    let FieldAt::Quoted { start, next } = field_after(line, comma)? else {
+        return None;
+    };
+    if next < line.len() {
+        return None;
     }
+    Some(BodyPlace { start, len: 0 })
 }
 
 // The place after a comma, or the line's end where no comma stands.
@@ -46,11 +41,13 @@ fn are_data(line: &[u8], comma: usize, len: usize) -> bool
 {
     let mut at = comma;
     for _ in 0..len {
-        let f = field_after(line, at);
+        let Some(f) = field_after(line, at) else {
+            return false;
+        };
         if number_in(f, 0, 255).is_none() {
             return false;
         }
-        at = place_after(f);
+        at = f.next();
     }
     line.len() <= at
 }
@@ -60,15 +57,15 @@ fn sized_after(line: &[u8], comma: usize) -> Option<BodyPlace>
     ensures fact_1 { tail_step_as sized line.now result ≡ last_after sized (drop comma line.now) }
     ensures fact_2 { TailInside line.now result }
 {
-    let f = field_after(line, comma);
+    let f = field_after(line, comma)?;
     let v = number_of(f)?;
-    let next = place_after(f);
+    let next = f.next();
     let len = v as usize;
-    if are_data(line, next, len) {
-        let start = after_comma(line, next);
-        return Some(BodyPlace { start, len });
+    if !are_data(line, next, len) {
+        return None;
     }
-    None
+    let start = after_comma(line, next);
+    Some(BodyPlace { start, len })
 }
 
 // The Text or the Data of a record, of the fields after a comma, which must end the line.

@@ -11,24 +11,21 @@ ghost use Rattle.midicsv_record.specs.Column.{field_in, value_as, Reads};
 
 use super::ColumnKind;
 use super::text::is_word;
-use midicsv_scan::FieldStep;
+use midicsv_scan::FieldAt;
 use smf::header::division_ok;
 
 // A number without a minus.
-pub fn number_of(f: FieldStep) -> Option<u32>
+pub fn number_of(f: FieldAt) -> Option<u32>
     ensures { Reads size_of f result }
 {
     match f {
-        FieldStep::Number { value, .. } => Some(value),
-        FieldStep::Minus { .. } => None,
-        FieldStep::Name { .. } => None,
-        FieldStep::Quoted { .. } => None,
-        FieldStep::BadField => None,
+        FieldAt::Number { value, .. } => Some(value),
+        _ => None,
     }
 }
 
 // A number from lo to hi.
-pub fn number_in(f: FieldStep, lo: u32, hi: u32) -> Option<u32>
+pub fn number_in(f: FieldAt, lo: u32, hi: u32) -> Option<u32>
     ensures { Reads (read_column (range lo hi)) f result }
 {
     let value = number_of(f)?;
@@ -36,13 +33,13 @@ pub fn number_in(f: FieldStep, lo: u32, hi: u32) -> Option<u32>
 }
 
 // A number from -least to most; one below 0 is kept as `all` more.
-fn signed_of(f: FieldStep, most: u32, least: u32, all: u32) -> Option<u32>
+fn signed_of(f: FieldAt, most: u32, least: u32, all: u32) -> Option<u32>
     requires { least ≤ all }
     ensures { Reads (read_signed most least all) f result }
 {
     match f {
-        FieldStep::Number { value, .. } if value <= most => Some(value),
-        FieldStep::Minus { value, .. } if value <= least => Some(all - value),
+        FieldAt::Number { value, .. } if value <= most => Some(value),
+        FieldAt::Minus { value, .. } if value <= least => Some(all - value),
         _ => None,
     }
 }
@@ -58,15 +55,12 @@ fn mode_at(line: &[u8], start: usize) -> Option<u32>
 }
 
 // A mode, which is a quoted text.
-fn mode_of(line: &[u8], f: FieldStep) -> Option<u32>
+fn mode_of(line: &[u8], f: FieldAt) -> Option<u32>
     ensures { value_as result ≡ read_column mode (field_in line.now f) }
 {
     match f {
-        FieldStep::Number { .. } => None,
-        FieldStep::Minus { .. } => None,
-        FieldStep::Name { .. } => None,
-        FieldStep::Quoted { start, .. } => mode_at(line, start),
-        FieldStep::BadField => None,
+        FieldAt::Quoted { start, .. } => mode_at(line, start),
+        _ => None,
     }
 }
 
@@ -92,7 +86,7 @@ fn is_free(t: u32) -> bool
 }
 
 // A meta type without a name of its own.
-fn free_type(f: FieldStep) -> Option<u32>
+fn free_type(f: FieldAt) -> Option<u32>
     ensures { Reads (read_column free_type) f result }
 {
     let value = number_of(f)?;
@@ -100,7 +94,7 @@ fn free_type(f: FieldStep) -> Option<u32>
 }
 
 // A division, as its 16 bits in the file.
-fn division_of(f: FieldStep) -> Option<u32>
+fn division_of(f: FieldAt) -> Option<u32>
     ensures { Reads (read_column division) f result }
 {
     let bits = signed_of(f, 32767, 32768, 65536)?;
@@ -108,7 +102,7 @@ fn division_of(f: FieldStep) -> Option<u32>
 }
 
 // The number of a field, by its column.
-pub fn value_in(line: &[u8], f: FieldStep, column: ColumnKind) -> Option<u32>
+pub fn value_in(line: &[u8], f: FieldAt, column: ColumnKind) -> Option<u32>
     ensures { value_as result ≡ read_first (column_as column) (field_in line.now f) }
 {
     match column {

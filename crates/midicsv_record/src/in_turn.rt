@@ -1,37 +1,24 @@
 // The fields of a line in turn, each from the comma before it on.
 ghost use Rattle.std.specs.Prelude.{◌≡◌, ◌≤◌, drop};
-ghost use Rattle.midicsv_scan.specs.FieldStep.{field_as, Within};
+ghost use Rattle.midicsv_scan.specs.FieldAt.{field_as, Within};
 ghost use Rattle.midicsv_record.specs.Table.{columns_at};
-ghost use Rattle.midicsv_record.specs.InTurn.{field_after, columns_after, place_after, cell_as, first_after, columns_as};
+ghost use Rattle.midicsv_record.specs.InTurn.{field_after, columns_after, cell_as, first_after, columns_as};
 
 use super::column::value_in;
 use super::table::{column_at, column_count};
 use super::{Cell, Columns};
-use midicsv_scan::FieldStep;
+use midicsv_scan::FieldAt;
 use midicsv_scan::field::field_at;
 
 // The field after the comma at a place; none where the line ends there.
-pub fn field_after(line: &[u8], comma: usize) -> FieldStep
+pub fn field_after(line: &[u8], comma: usize) -> Option<FieldAt>
     ensures fact_1 { field_as line.now result ≡ field_after (drop comma line.now) }
     ensures fact_2 { Within line.now comma result }
 {
     if line.len() <= comma {
-        return FieldStep::BadField;
+        return None;
     }
     field_at(line, comma + 1)
-}
-
-// The place after a field: that of its comma, or the line's end.
-pub fn place_after(f: FieldStep) -> usize
-    ensures { result ≡ place_after f }
-{
-    match f {
-        FieldStep::Number { next, .. } => next,
-        FieldStep::Minus { next, .. } => next,
-        FieldStep::Name { next, .. } => next,
-        FieldStep::Quoted { next, .. } => next,
-        FieldStep::BadField => 0,
-    }
 }
 
 // The number of the column so numbered from 0, of the field after a comma; 0 past the last column, and then no field is read.
@@ -45,11 +32,11 @@ fn column_after(line: &[u8], comma: usize, name: u8, i: usize) -> Option<Cell>
             next: comma,
         });
     }
-    let f = field_after(line, comma);
+    let f = field_after(line, comma)?;
     let value = value_in(line, f, column_at(name, i))?;
     Some(Cell {
         value,
-        next: place_after(f),
+        next: f.next(),
     })
 }
 

@@ -7,9 +7,9 @@ ghost use Rattle.midicsv_record.specs.InTurn.{named_after, record_after, record_
 use super::Row;
 use super::body::tail_after;
 use super::column::number_in;
-use super::in_turn::{columns_after, field_after, place_after};
+use super::in_turn::{columns_after, field_after};
 use super::name::find_name;
-use midicsv_scan::FieldStep;
+use midicsv_scan::FieldAt;
 use midicsv_scan::field::field_at;
 
 // Whether the numbers go together: a Header of format 0 has one track.
@@ -50,19 +50,14 @@ fn row_after(line: &[u8], comma: usize, track: u32, time: u32) -> Option<Row>
     ensures fact_1 { row_as line.now result ≡ record_after track time (drop comma line.now) }
     ensures fact_2 { RowInside line.now result }
 {
-    match field_after(line, comma) {
-        FieldStep::Number { .. } => None,
-        FieldStep::Minus { .. } => None,
-        FieldStep::Name { start, end, next } => {
-            let name = find_name(&line[start..end]);
-            if 28 < name {
-                return None;
-            }
-            named_row(line, next, name, track, time)
-        }
-        FieldStep::Quoted { .. } => None,
-        FieldStep::BadField => None,
+    let FieldAt::Name { start, end, next } = field_after(line, comma)? else {
+        return None;
+    };
+    let name = find_name(&line[start..end]);
+    if 28 < name {
+        return None;
     }
+    named_row(line, next, name, track, time)
 }
 
 // The record of a line: Track, Time, name, and the fields of the name.
@@ -70,9 +65,9 @@ pub fn row_in_turn(line: &[u8]) -> Option<Row>
     ensures fact_1 { row_as line.now result ≡ record_in_turn line.now }
     ensures fact_2 { RowInside line.now result }
 {
-    let first = field_at(line, 0);
+    let first = field_at(line, 0)?;
     let track = number_in(first, 0, 65535)?;
-    let second = field_after(line, place_after(first));
+    let second = field_after(line, first.next())?;
     let time = number_in(second, 0, 4294967295)?;
-    row_after(line, place_after(second), track, time)
+    row_after(line, second.next(), track, time)
 }

@@ -1,22 +1,21 @@
 // The refusal of a line that has a fault, by the tests in the order of document 01: 22, 24, 23, 24 with the Length's 25, 25.
-ghost use Rattle.std.specs.Prelude.{◌≡◌, ◌≤◌, eqb};
+ghost use Rattle.std.specs.Prelude.{◌≡◌, ◌≤◌, eqb, Some};
 ghost use Rattle.event.specs.Refusal.{number_of};
 ghost use Rattle.midicsv.specs.Result.{good, bad, test};
 ghost use Rattle.midicsv.specs.ReadRecord.{read_line};
-ghost use Rattle.midicsv_scan.specs.FieldStep.{Counted};
+ghost use Rattle.midicsv_scan.specs.FieldAt.{Counted};
 ghost use Rattle.midicsv_record.specs.Row.{name_as};
 ghost use Rattle.midicsv_record.specs.Column.{later_in};
 ghost use Rattle.midicsv_record.specs.Line.{Fields, size_in, size_as, named_in};
 ghost use Rattle.midicsv_record.specs.InTurn.{Refused};
-ghost use Rattle.midicsv_scan.specs.declared.FieldCount.TheVariants.{Count};
 
 use super::TailKind;
 use super::column::number_of;
 use super::name::find_name;
 use super::table::{column_count, tail_kind};
 use event::refusal::Refusal;
+use midicsv_scan::FieldAt;
 use midicsv_scan::fields::{count_fields, field};
-use midicsv_scan::{FieldCount, FieldStep};
 
 // 24 where the count of fields is not the one that is wanted.
 fn size_step(count: usize, wanted: usize) -> Result<(), Refusal>
@@ -42,7 +41,7 @@ fn size_of(line: &[u8], count: usize, name: u8) -> Result<(), Refusal>
             if count <= k {
                 return Err(Refusal::WrongFieldCount);
             }
-            let Some(v) = number_of(field(line, k)) else {
+            let Some(v) = field(line, k).and_then(number_of) else {
                 return Err(Refusal::FieldOutOfRange);
             };
             let wanted = k + 1 + v as usize;
@@ -68,23 +67,21 @@ fn named_refusal(line: &[u8], count: usize, name: u8) -> Refusal
 
 // A line of so many good fields: 24 under three, and 23 where the third is no name.
 fn counted_refusal(line: &[u8], count: usize) -> Refusal
-    requires fact_1 { Counted line.now (Count count) }
+    requires fact_1 { Counted line.now (Some count) }
     requires fact_2 { Refused (read_line line.now) }
     ensures { bad (number_of result) ≡ read_line line.now }
 {
     if count < 3 {
         return Refusal::WrongFieldCount;
     }
-    match field(line, 2) {
-        FieldStep::Number { .. } => Refusal::UnknownRecord,
-        FieldStep::Minus { .. } => Refusal::UnknownRecord,
-        FieldStep::Name { start, end, .. } => {
-            let name = find_name(&line[start..end]);
-            named_refusal(line, count, name)
-        }
-        FieldStep::Quoted { .. } => Refusal::UnknownRecord,
-        FieldStep::BadField => Refusal::UnknownRecord,
-    }
+    let Some(third) = field(line, 2) else {
+        return Refusal::UnknownRecord;
+    };
+    let FieldAt::Name { start, end, .. } = third else {
+        return Refusal::UnknownRecord;
+    };
+    let name = find_name(&line[start..end]);
+    named_refusal(line, count, name)
 }
 
 // The refusal of a line that is refused.
@@ -93,7 +90,7 @@ pub fn refusal_of(line: &[u8]) -> Refusal
     ensures { bad (number_of result) ≡ read_line line.now }
 {
     match count_fields(line) {
-        FieldCount::Count(count) => counted_refusal(line, count),
-        FieldCount::NoCount => Refusal::BadField,
+        Some(count) => counted_refusal(line, count),
+        None => Refusal::BadField,
     }
 }

@@ -54,16 +54,11 @@ pub fn text_step(passed: TextState, c: u8) -> TextStep
 pub fn is_word(line: &[u8], start: usize, word: &[u8]) -> bool
     ensures { result ≡ same_bytes (unquoted (drop start line.now) plain) word.now }
 {
-    let mut i = start;
     let mut k = 0;
     let mut passed = TextState::Plain;
-    while i < line.len() {
-        let c = line[i];
-        i = i + 1;
-        match text_step(passed, c) {
-            TextStep::Nothing(next) => {
-                passed = next;
-            }
+    for i in start..line.len() {
+        match text_step(passed, line[i]) {
+            TextStep::Nothing(next) => passed = next,
             TextStep::Byte(b, next) => {
                 if word.len() <= k {
                     return false;
@@ -71,12 +66,10 @@ pub fn is_word(line: &[u8], start: usize, word: &[u8]) -> bool
                 if b != word[k] {
                     return false;
                 }
-                k = k + 1;
+                k += 1;
                 passed = next;
             }
-            TextStep::Closed => {
-                return k == word.len();
-            }
+            TextStep::Closed => return k == word.len(),
         }
     }
     k == word.len()

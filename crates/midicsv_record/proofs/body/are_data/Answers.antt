@@ -3,27 +3,36 @@ use mathlib.Core.Path.{◌≡◌, sym, subst}
 use mathlib.Core.Bool.{Bool}
 use native.Mathlib.Omega.{arith}
 use lib.ListN.{drop}
+use Rattle.midicsv_scan.specs.FieldAt.{field_as}
 use Rattle.midicsv_record.specs.InTurn.{DataEnd}
-use Rattle.midicsv_record.proofs.BodyLaws.{data_on, data_off, data_done}
+use Rattle.midicsv_record.proofs.BodyLaws.{data_on, data_off, data_missing, data_done}
 use Rattle.midicsv_record.proofs.body.are_data.Goals as goal
 
 pub loop-init : goal.loop-init
 loop-init c = let all : c.args.len - 0 ≡ c.args.len = omega arith in rw all (λ b d. d)
+
+pub returns-in_default : goal.returns-in_default
+unfolding field_as
+returns-in_default c =
+    let k = c.loop in
+    let l = c.args.line.now in
+    let few : c.args.len - k.counter ≡ suc (c.args.len - (k.counter + 1)) = omega arith in
+    data_missing (DataEnd c.args.len (drop c.args.comma l)) l k.at _ (rw few at k.invariant) c.in_default.ensures.fact_1
 
 pub returns-then-is_none : goal.returns-then-is_none
 returns-then-is_none c =
     let k = c.loop in
     let l = c.args.line.now in
     let few : c.args.len - k.counter ≡ suc (c.args.len - (k.counter + 1)) = omega arith in
-    data_off (DataEnd c.args.len (drop c.args.comma l)) l k.at _ _ (rw few at k.invariant) c.field_after-f.ensures.fact_1 _ (c.number_in.ensures l) c.if-is_none.ensures
+    data_off (DataEnd c.args.len (drop c.args.comma l)) l k.at _ (rw few at k.invariant) c.in-Some.f c.in-Some.ensures.fact_1 _ (c.number_in.ensures l) c.if-is_none.ensures
 
 pub loop-preserved : goal.loop-preserved
 loop-preserved c =
     let k = c.loop in
     let l = c.args.line.now in
     let few : c.args.len - k.counter ≡ suc (c.args.len - (k.counter + 1)) = omega arith in
-    rw c.place_after-at.ensures
-    (data_on (DataEnd c.args.len (drop c.args.comma l)) l k.at _ _ (rw few at k.invariant) c.field_after-f.ensures.fact_1 _ (c.number_in.ensures l) c.if-is_none.ensures)
+    rw c.next-at.ensures
+    (data_on (DataEnd c.args.len (drop c.args.comma l)) l k.at _ (rw few at k.invariant) c.in-Some.f c.in-Some.ensures.fact_1 _ (c.number_in.ensures l) c.if-is_none.ensures)
 
 pub returns : goal.returns
 returns c =

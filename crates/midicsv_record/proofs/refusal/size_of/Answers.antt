@@ -7,7 +7,7 @@ use Rattle.midicsv_record.specs.Table.{columns_at, tail_at, tail_as}
 use Rattle.midicsv_record.specs.Column.{field_in, fields_in, value_as}
 use Rattle.midicsv_record.specs.Line.{size_as}
 use Rattle.midicsv_record.proofs.FiveLaws.{few_columns}
-use Rattle.midicsv_record.proofs.FieldInLaws.{field_in_lem}
+use Rattle.midicsv_record.proofs.FieldInLaws.{number_there}
 use Rattle.midicsv_record.proofs.SizeLaws.{size_none, size_text, size_missing, size_off, size_sized}
 use native.Mathlib.Omega.{arith}
 use mathlib.Core.Path.{◌≡◌, sym, ◌∙◌, ap}
@@ -50,17 +50,6 @@ returns-in-OneText c =
     let e : tail_at a.name ≡ one_text = sym c.tail_kind.ensures ∙ ap tail_as c.in-OneText.is in
     (rw c.column_count-k.ensures at c.size_step-in-OneText.ensures) ∙ size_text a.line.now a.count a.name c.requires.fact_2 e
 
-pub returns-in-Some : goal.returns-in-Some
-unfolding tail_as size_as value_as
-returns-in-Some c =
-    let a = c.args in
-    let l = a.line.now in
-    let f = c.requires.fact_2 in
-    let e : tail_at a.name ≡ sized = sym c.tail_kind.ensures ∙ ap tail_as c.in-Sized.is in
-    let h : 3 + length (columns_at a.name) < a.count = rw c.column_count-k.ensures at c.if-count-k.false in
-    let x : field_in l c.field.result ≡ get_or (fields_in l) (3 + length (columns_at a.name)) (num 0) = field_in_lem l _ _ c.requires.fact_2.fields (rw c.requires.fact_2.counts h) (rw c.column_count-k.ensures at c.field.ensures) in
-    (rw c.column_count-k.ensures at c.size_step-in-Sized.ensures) ∙ size_sized l a.count a.name f e h _ x _ (ap value_as (sym c.in-Some.is) ∙ c.number_of.ensures l)
-
 pub returns-in_default : goal.returns-in_default
 unfolding tail_as size_as value_as
 returns-in_default c =
@@ -69,5 +58,16 @@ returns-in_default c =
     let f = c.requires.fact_2 in
     let e : tail_at a.name ≡ sized = sym c.tail_kind.ensures ∙ ap tail_as c.in-Sized.is in
     let h : 3 + length (columns_at a.name) < a.count = rw c.column_count-k.ensures at c.if-count-k.false in
-    let x : field_in l c.field.result ≡ get_or (fields_in l) (3 + length (columns_at a.name)) (num 0) = field_in_lem l _ _ c.requires.fact_2.fields (rw c.requires.fact_2.counts h) (rw c.column_count-k.ensures at c.field.ensures) in
-    size_off l a.count a.name f e h _ x (ap value_as (sym c.in_default.is) ∙ c.number_of.ensures l)
+    let x = number_there l _ c.field.result c.and_then.result f.fields (rw f.counts h) (rw c.column_count-k.ensures at c.field.ensures) c.and_then.ensures in
+    size_off l a.count a.name f e h (rw c.in_default.is at x)
+
+pub returns-in-Some : goal.returns-in-Some
+unfolding tail_as size_as value_as
+returns-in-Some c =
+    let a = c.args in
+    let l = a.line.now in
+    let f = c.requires.fact_2 in
+    let e : tail_at a.name ≡ sized = sym c.tail_kind.ensures ∙ ap tail_as c.in-Sized.is in
+    let h : 3 + length (columns_at a.name) < a.count = rw c.column_count-k.ensures at c.if-count-k.false in
+    let x = number_there l _ c.field.result c.and_then.result f.fields (rw f.counts h) (rw c.column_count-k.ensures at c.field.ensures) c.and_then.ensures in
+    (rw c.column_count-k.ensures at c.size_step-in-Sized.ensures) ∙ size_sized l a.count a.name f e h _ (rw c.in-Some.is at x)
