@@ -23,7 +23,8 @@ use Rattle.midicsv.specs.KindOf.{kind_named}
 use Rattle.midicsv.proofs.RowLaws.{InColumn, InColumns, InTail}
 use Rattle.midicsv.proofs.KindAcceptedLaws.{nth_in, key_same, kind_fits}
 use Rattle.midicsv.proofs.LayableLaws.{Layable, one_permitted}
-use Rattle.midicsv_record.specs.Row.{name_at, body_in}
+use Rattle.midicsv_record.specs.Name.{name_at}
+use Rattle.midicsv_record.specs.Row.{body_in}
 use Rattle.midicsv_read.specs.RowEvent.{event_kind, kind_numbered, row_kind, row_body, row_bytes, status_after}
 use Rattle.midicsv_record.specs.declared.Row.{Row}
 use Rattle.midicsv_read.proofs.QuotedLaws.{unquoted_most}

@@ -30,8 +30,7 @@ use Rattle.midicsv.proofs.ResultLaws.{test_eq}
 use Rattle.midicsv.proofs.LayableLaws.{Layable}
 use Rattle.midicsv.proofs.KindAcceptedLaws.{kind_fits}
 use Rattle.midicsv.proofs.RecordAcceptedLaws.{Given}
-use Rattle.midicsv_record.specs.Row.{name_at}
-use Rattle.midicsv_read.specs.RowEvent.{event_kind, kind_numbered, status_after}
+use Rattle.midicsv_read.specs.RowEvent.{event_kind, kind_numbered, is_event, status_after}
 use Rattle.midicsv_read.specs.Progress.{events_bytes, front_bytes, bytes_of, Inside, InTrack, Follows}
 use Rattle.midicsv_read.specs.declared.Progress.{Progress}
 use Rattle.std.specs.Prelude.{Ok, Err, Result as CodeResult}
@@ -41,31 +40,6 @@ use Rattle.midicsv_read.specs.declared.Phase.{Phase}
 use Rattle.event_write.proofs.PatchLaws.{patch}
 use Rattle.midicsv_read.proofs.BytesSoFarLaws.{last_time_lem, last_force_lem, inside_more, between_more}
 use Rattle.midicsv_read.proofs.RowEventLaws.{row_event, status_row, end_row}
-
--- ---- the names from the fourth on are those of events
-
-unfoldable pub is_event : RecordName → Bool
-is_event header = false
-is_event start_track = false
-is_event end_of_file = false
-is_event (event g) = true
-
-unfoldable all_events : List RecordName → Bool
-all_events [] = true
-all_events (x ∷ xs) = is_event x && all_events xs
-
-nth_event : (xs : List RecordName) (i : ℕ) → all_events xs ≡ true → i < length xs → is_event (get_or xs i end_of_file) ≡ true
-unfolding all_events
-nth_event [] i e h = absurd (omega arith)
-nth_event (x ∷ xs) zero e h = (and_both (is_event x) (all_events xs) e).0
-nth_event (x ∷ xs) (suc i) e h = nth_event xs i (and_both (is_event x) (all_events xs) e).1 (omega arith)
-
-pub event_name : (n : ℕ) → 3 ≤ n → n ≤ 28 → is_event (name_at n) ≡ true
-unfolding is_event all_events
-event_name zero h k = absurd (omega arith)
-event_name (suc zero) h k = absurd (omega arith)
-event_name (suc (suc zero)) h k = absurd (omega arith)
-event_name (suc (suc (suc i))) h k = nth_event (drop 3 all_names) i refl (omega arith)
 
 module _ (m : Manner) (st : Progress) (out : List ℕ) (track time : ℕ) (v : Values) where
   abbrev said : RecordName → Record

@@ -20,7 +20,9 @@ use Rattle.midicsv.specs.Order.{State, step}
 use Rattle.midicsv.specs.PieceOfText.{skipped, told, framed, tell_line, step_told, text_limit}
 use Rattle.midicsv.proofs.RowLaws.{InColumn, InColumns}
 use Rattle.midicsv.proofs.RecordAcceptedLaws.{line_given}
-use Rattle.midicsv_record.specs.Row.{name_at, body_in, columns_in, record_in, line_as, Placed}
+use Rattle.midicsv_record.specs.Name.{name_at}
+use Rattle.midicsv_record.specs.declared.Name.{Name}
+use Rattle.midicsv_record.specs.Row.{body_in, columns_in, record_in, line_as, Placed}
 use Rattle.midicsv_read.specs.Progress.{Answers, Follows, Near, header_step, start_step, end_step, row_step, line_step, RowOf}
 use Rattle.midicsv_record.specs.declared.Row.{Row}
 use Rattle.midicsv_read.specs.declared.Progress.{Progress}
@@ -41,29 +43,29 @@ follows_same m st out f g r new e h s old a = subst (λ x. Answers m x old r new
 -- ---- by its name
 
 module _ (m : Manner) (st : Progress) (out : List ℕ) (l : List ℕ) (row : Row) (r : CodeResult Progress Refusal) (new : List ℕ) where
-  header_named : (s : State) → row.name ≡ 0 → row_step l row s ≡ header_step row s
+  header_named : (s : State) → row.name ≡ Name.Header → row_step l row s ≡ header_step row s
   unfolding step shape body_in
   header_named s e = rw e
 
-  start_named : (s : State) → row.name ≡ 1 → row_step l row s ≡ start_step row s
+  start_named : (s : State) → row.name ≡ Name.StartTrack → row_step l row s ≡ start_step row s
   unfolding step shape body_in
   start_named s e = rw e
 
-  end_named : (s : State) → row.name ≡ 2 → row_step l row s ≡ end_step row s
+  end_named : (s : State) → row.name ≡ Name.EndOfFile → row_step l row s ≡ end_step row s
   unfolding step shape body_in
   end_named s e = rw e
 
-  pub row_header : row.name ≡ 0 → Follows m st out (header_step row) r new → Follows m st out (row_step l row) r new
+  pub row_header : row.name ≡ Name.Header → Follows m st out (header_step row) r new → Follows m st out (row_step l row) r new
   row_header e f = follows_same m st out (header_step row) (row_step l row) r new (λ s. header_named s e) f
 
-  pub row_start : row.name ≡ 1 → Follows m st out (start_step row) r new → Follows m st out (row_step l row) r new
+  pub row_start : row.name ≡ Name.StartTrack → Follows m st out (start_step row) r new → Follows m st out (row_step l row) r new
   row_start e f = follows_same m st out (start_step row) (row_step l row) r new (λ s. start_named s e) f
 
-  pub row_end_lem : row.name ≡ 2 → Follows m st out (end_step row) r new → Follows m st out (row_step l row) r new
+  pub row_end_lem : row.name ≡ Name.EndOfFile → Follows m st out (end_step row) r new → Follows m st out (row_step l row) r new
   row_end_lem e f = follows_same m st out (end_step row) (row_step l row) r new (λ s. end_named s e) f
 
 -- the number of tracks is in its range, and the division's bits are those of a division
-pub header_numbers : (l : List ℕ) (row : Row) → Bytes l → RowOf l row → row.name ≡ 0 → (get_or row.columns 1 0 ≤ 65535) × (division_ok (get_or row.columns 2 0) ≡ true)
+pub header_numbers : (l : List ℕ) (row : Row) → Bytes l → RowOf l row → row.name ≡ Name.Header → (get_or row.columns 1 0 ≤ 65535) × (division_ok (get_or row.columns 2 0) ≡ true)
 unfolding shape InColumns InColumn
 header_numbers l row b k e =
     let c : InColumns (shape (name_at row.name)).columns (columns_in row) = (line_given l (record_in l row) b k.reads).columns in
@@ -76,7 +78,7 @@ header_numbers l row b k e =
 
 pub row_of_lem : (l : List ℕ) (row : Row) → line_as l (Ok row) ≡ read_line l → Placed l (Ok row) → length l ≤ text_limit → RowOf l row
 unfolding line_as Placed
-row_of_lem l row e p h = record { reads = sym e; name = p.0; start = p.1; len = p.2; short = h }
+row_of_lem l row e p h = record { reads = sym e; start = p.0; len = p.1; short = h }
 
 pub wrong_of : (l : List ℕ) (r : Refusal) → line_as l (Err r) ≡ read_line l → read_line l ≡ bad (number_of r)
 unfolding line_as

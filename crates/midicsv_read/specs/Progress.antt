@@ -145,7 +145,6 @@ line_step l = λ s. step_told s (tell_line l)
 -- the row was read from the line l
 pub record RowOf (l : List ℕ) (r : Row) : Type 0 where
   pub reads : read_line l ≡ good (record_in l r)
-  pub name : r.name ≤ 28
   pub start : r.start ≤ length l
   pub len : r.len ≤ length l
   pub short : length l ≤ text_limit

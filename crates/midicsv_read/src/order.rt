@@ -5,6 +5,8 @@ ghost use Rattle.event_write.specs.Written.{Written};
 ghost use Rattle.event_write.specs.Head.{manner_of};
 ghost use Rattle.smf.specs.Layout.{lay_header};
 ghost use Rattle.smf.specs.Division.{division_ok, division_of};
+ghost use Rattle.midicsv_record.specs.Name.{name_at};
+ghost use Rattle.midicsv_read.specs.RowEvent.{is_event};
 ghost use Rattle.midicsv_read.specs.Progress.{header_step, start_step, end_step, row_step, line_step, RowOf, InTrack, Follows, FollowsEither, FollowsStill, Near, Sized};
 
 use super::write_row::{put_row, row_kind, status_after};
@@ -12,8 +14,8 @@ use super::{Phase, Progress};
 use event::refusal::Refusal;
 use event::{Delta, Since, Time};
 use event_write::bytes::{put_four, put_two};
-use midicsv_record::Row;
 use midicsv_record::line::read_line;
+use midicsv_record::{Name, Row};
 use midicsv_scan::frame::{passed_over, trim};
 
 // The longest step between two events.
@@ -131,7 +133,7 @@ fn put_event(
 ) -> Result<Progress, Refusal>
     requires fact_1 { Sized st }
     requires fact_2 { RowOf line.now row }
-    requires fact_3 { 3 ≤ row.name }
+    requires fact_3 { is_event (name_at row.name) ≡ true }
     requires fact_4 { InTrack st row.track row.time delta.0 }
     ensures fact_1 { Follows (manner_of short) st out.old (row_step line.now row) result out.new }
     ensures fact_2 { Near (st.at + 15 + length line.now) result }
@@ -169,7 +171,7 @@ fn take_event(
 ) -> Result<Progress, Refusal>
     requires fact_1 { Sized st }
     requires fact_2 { RowOf line.now row }
-    requires fact_3 { 3 ≤ row.name }
+    requires fact_3 { is_event (name_at row.name) ≡ true }
     ensures fact_1 { Follows (manner_of short) st out.old (row_step line.now row) result out.new }
     ensures fact_2 { Near (st.at + 15 + length line.now) result }
 {
@@ -204,11 +206,10 @@ fn take_row(
     ensures fact_1 { Follows (manner_of short) st out.old (row_step line.now row) result out.new }
     ensures fact_2 { Near (st.at + 15 + length line.now) result }
 {
-    let name = row.name;
-    match name {
-        0 => take_header(out, st, row),
-        1 => take_start(out, st, row),
-        2 => take_end(st, row),
+    match row.name {
+        Name::Header => take_header(out, st, row),
+        Name::StartTrack => take_start(out, st, row),
+        Name::EndOfFile => take_end(st, row),
         _ => take_event(out, st, row, line, short),
     }
 }

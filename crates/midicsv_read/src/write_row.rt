@@ -5,7 +5,7 @@ ghost use Rattle.event_write.specs.Head.{manner_of};
 ghost use Rattle.midicsv.specs.ReadField.{plain};
 ghost use Rattle.midicsv_scan.specs.Unquoted.{unquoted};
 ghost use Rattle.midicsv_record.specs.Row.{data_from};
-ghost use Rattle.midicsv_read.specs.RowEvent.{row_kind, row_body, row_bytes, status_after};
+ghost use Rattle.midicsv_read.specs.RowEvent.{part_of, row_kind, row_body, row_bytes, status_after};
 ghost use Rattle.midicsv_read.specs.Data.{DataIs};
 
 use super::DataStep;
@@ -13,7 +13,7 @@ use event::{Delta, EventKind};
 use event_write::bytes::put_byte;
 use midicsv_record::body::after_comma;
 use midicsv_record::text::text_step;
-use midicsv_record::{Row, TextState, TextStep};
+use midicsv_record::{Name, Row, TextState, TextStep};
 use midicsv_scan::FieldAt;
 use midicsv_scan::field::field_at;
 
@@ -24,72 +24,79 @@ fn byte(n: u32) -> u8
     (n % 256) as u8
 }
 
-// Header, Start_track, End_of_file, which are no events, and the events of three data bytes.
-fn triple_kind(row: Row, len: usize) -> EventKind
-    requires { row.name < 7 }
+// The channel events.
+#[tactic(auto, unfolding(crate::specs::RowEvent::event_kind, crate::specs::RowEvent::kind_numbered), using(crate::proofs::RowEventLaws::kind_cut))]
+fn channel_kind(row: Row, len: usize) -> EventKind
+    requires { part_of row.name ≡ 0 }
     ensures { result ≡ row_kind row len }
 {
-    let [channel, key, value, ..] = row.columns;
-    let channel = byte(channel);
-    let key = byte(key);
-    let value = byte(value);
-    let name = row.name;
-    match name {
-        3 => EventKind::NoteOff {
+    let [first, second, third, ..] = row.columns;
+    let channel = byte(first);
+    let key = byte(second);
+    let value = byte(third);
+    let bend = (second % 65536) as u16;
+    match row.name {
+        Name::NoteOff => EventKind::NoteOff {
             channel,
             key,
             velocity: value,
         },
-        4 => EventKind::NoteOn {
+        Name::NoteOn => EventKind::NoteOn {
             channel,
             key,
             velocity: value,
         },
-        5 => EventKind::PolyAftertouch {
+        Name::PolyAftertouch => EventKind::PolyAftertouch {
             channel,
             key,
             value,
         },
-        6 => EventKind::Control {
+        Name::Control => EventKind::Control {
             channel,
             controller: key,
             value,
         },
-        _ => EventKind::EndTrack,
-    }
-}
-
-// The other channel events, the system exclusive ones and Sequence_number.
-fn short_kind(row: Row, len: usize) -> EventKind
-    requires fact_1 { 7 ≤ row.name }
-    requires fact_2 { row.name < 13 }
-    ensures { result ≡ row_kind row len }
-{
-    let [first, second, ..] = row.columns;
-    let channel = byte(first);
-    let value = byte(second);
-    let bend = (second % 65536) as u16;
-    let start = row.start;
-    let name = row.name;
-    match name {
-        7 => EventKind::Program {
+        Name::Program => EventKind::Program {
             channel,
-            number: value,
+            number: key,
         },
-        8 => EventKind::ChannelAftertouch { channel, value },
-        9 => EventKind::PitchBend {
+        Name::ChannelAftertouch => EventKind::ChannelAftertouch {
+            channel,
+            value: key,
+        },
+        _ => EventKind::PitchBend {
             channel,
             value: bend,
         },
-        10 => EventKind::SystemExclusive { start, len },
-        11 => EventKind::SystemExclusivePacket { start, len },
-        _ => EventKind::SequenceNumber { number: first },
     }
 }
 
-// The metas after the texts.
+// The texts.
+#[tactic(auto, unfolding(crate::specs::RowEvent::event_kind, crate::specs::RowEvent::kind_numbered), using(crate::proofs::RowEventLaws::kind_cut))]
+fn text_kind(row: Row, len: usize) -> EventKind
+    requires { part_of row.name ≡ 1 }
+    ensures { result ≡ row_kind row len }
+{
+    let kind = match row.name {
+        Name::Text => 1,
+        Name::Copyright => 2,
+        Name::Title => 3,
+        Name::InstrumentName => 4,
+        Name::Lyric => 5,
+        Name::Marker => 6,
+        _ => 7,
+    };
+    EventKind::Text {
+        kind,
+        start: row.start,
+        len,
+    }
+}
+
+// The system exclusive events and the metas but the texts; End_track stands for what is no event too.
+#[tactic(auto, unfolding(crate::specs::RowEvent::event_kind, crate::specs::RowEvent::kind_numbered), using(crate::proofs::RowEventLaws::kind_cut))]
 fn meta_kind(row: Row, len: usize) -> EventKind
-    requires { 20 ≤ row.name }
+    requires { part_of row.name ≡ 2 }
     ensures { result ≡ row_kind row len }
 {
     let [first, second, third, fourth, fifth] = row.columns;
@@ -99,30 +106,32 @@ fn meta_kind(row: Row, len: usize) -> EventKind
     let fourth = byte(fourth);
     let fifth = byte(fifth);
     let start = row.start;
-    let name = row.name;
-    match name {
-        20 => EventKind::ChannelPrefix { number },
-        21 => EventKind::MidiPort { number },
-        23 => EventKind::Tempo { micros: first },
-        24 => EventKind::SmpteOffset {
+    match row.name {
+        Name::SystemExclusive => EventKind::SystemExclusive { start, len },
+        Name::SystemExclusivePacket => EventKind::SystemExclusivePacket { start, len },
+        Name::SequenceNumber => EventKind::SequenceNumber { number: first },
+        Name::ChannelPrefix => EventKind::ChannelPrefix { number },
+        Name::MidiPort => EventKind::MidiPort { number },
+        Name::Tempo => EventKind::Tempo { micros: first },
+        Name::SmpteOffset => EventKind::SmpteOffset {
             hour: number,
             minute: second,
             second: third,
             frame: fourth,
             part: fifth,
         },
-        25 => EventKind::TimeSignature {
+        Name::TimeSignature => EventKind::TimeSignature {
             numerator: number,
             denominator: second,
             click: third,
             notes: fourth,
         },
-        26 => EventKind::KeySignature {
+        Name::KeySignature => EventKind::KeySignature {
             key: number,
             minor: second,
         },
-        27 => EventKind::SequencerSpecific { start, len },
-        28 => EventKind::UnknownMeta {
+        Name::SequencerSpecific => EventKind::SequencerSpecific { start, len },
+        Name::UnknownMetaEvent => EventKind::UnknownMeta {
             kind: number,
             start,
             len,
@@ -135,21 +144,15 @@ fn meta_kind(row: Row, len: usize) -> EventKind
 pub fn row_kind(row: Row, len: usize) -> EventKind
     ensures { result ≡ row_kind row len }
 {
-    let name = row.name;
-    if name < 7 {
-        return triple_kind(row, len);
+    match row.name {
+        Name::NoteOff | Name::NoteOn | Name::PolyAftertouch | Name::Control => {
+            channel_kind(row, len)
+        }
+        Name::Program | Name::ChannelAftertouch | Name::PitchBend => channel_kind(row, len),
+        Name::Text | Name::Copyright | Name::Title | Name::InstrumentName => text_kind(row, len),
+        Name::Lyric | Name::Marker | Name::CuePoint => text_kind(row, len),
+        _ => meta_kind(row, len),
     }
-    if name < 13 {
-        return short_kind(row, len);
-    }
-    if name < 20 {
-        return EventKind::Text {
-            kind: name - 12,
-            start: row.start,
-            len,
-        };
-    }
-    meta_kind(row, len)
 }
 
 // The status in force after an event; 0 is none.
@@ -230,6 +233,7 @@ fn put_data(out: &mut [u8], at: usize, line: &[u8], start: usize, len: usize) ->
 }
 
 // The bytes of a row's Text or Data.
+#[tactic(auto, unfolding(midicsv::specs::Table::shape, midicsv::specs::Table::event_shape, midicsv_record::specs::Row::body_in), using(event_write::proofs::WriteLaws::nothing))]
 fn put_row_body(out: &mut [u8], at: usize, row: Row, line: &[u8]) -> usize
     requires fact_1 { at < 2 ^ 44 }
     requires fact_2 { row.start ≤ length line.now }
@@ -239,11 +243,12 @@ fn put_row_body(out: &mut [u8], at: usize, row: Row, line: &[u8]) -> usize
 {
     let start = row.start;
     let len = row.len;
-    let name = row.name;
-    match name {
-        10..=11 => put_data(out, at, line, start, len),
-        13..=19 => put_quoted(out, at, line, start),
-        27..=28 => put_data(out, at, line, start, len),
+    match row.name {
+        Name::SystemExclusive | Name::SystemExclusivePacket => put_data(out, at, line, start, len),
+        Name::SequencerSpecific | Name::UnknownMetaEvent => put_data(out, at, line, start, len),
+        Name::Text | Name::Copyright | Name::Title => put_quoted(out, at, line, start),
+        Name::InstrumentName | Name::Lyric => put_quoted(out, at, line, start),
+        Name::Marker | Name::CuePoint => put_quoted(out, at, line, start),
         _ => at,
     }
 }

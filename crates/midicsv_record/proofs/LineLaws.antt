@@ -17,12 +17,13 @@ use Rattle.midicsv.specs.Names.{same_name, find, name_from}
 use Rattle.smf.specs.Piece.{tracks_fit}
 use Rattle.midicsv.specs.ReadRecord.{size_of, counted, together, record_of, of_fields, read_line}
 use Rattle.midicsv_scan.specs.FieldAt.{Counted, FieldIs}
-use Rattle.midicsv_record.specs.Row.{name_at, name_as}
+use Rattle.midicsv_record.specs.Name.{name_at, name_as}
+use Rattle.midicsv_record.specs.declared.Name.{Name}
 use Rattle.midicsv_record.specs.Table.{columns_at, tail_at}
 use Rattle.midicsv_record.specs.Column.{field_in, fields_in, later_in}
 use Rattle.midicsv_record.specs.Line.{Fields, size_in, values_of, row_in, named_in}
 use Rattle.midicsv_scan.specs.declared.FieldAt.{FieldAt}
-use Rattle.std.specs.Prelude.{Some}
+use Rattle.std.specs.Prelude.{Some, None}
 use Rattle.midicsv_record.proofs.FieldInLaws.{field_in_lem}
 
 -- the Header alone asks for more
@@ -34,15 +35,6 @@ together_cut header (a ∷ b ∷ ns) = refl
 together_cut start_track ns = refl
 together_cut end_of_file ns = refl
 together_cut (event g) ns = refl
-
--- ---- a name without the Header's rule
-
-pub no_header : (n : RecordName) (ns : List ℕ) → together n [] ≡ true → true ≡ together n ns
-unfolding together tracks_fit
-no_header header ns e = let z : ◌≡◌ {A = Bool} false true = e in cc
-no_header start_track ns e = refl
-no_header end_of_file ns e = refl
-no_header (event g) ns e = refl
 
 -- ---- the count, then the values
 
@@ -65,17 +57,17 @@ module _ {A : Type 0} where
   counted_next k one_text fs x m = test_next (eqb (length fs) (k + 1)) x m
   counted_next k sized fs x m = sized_next (ltb k (length fs)) (size_of (get_or fs k (num 0))) (λ n. eqb (length fs) (k + 1 + n)) x m
 
-pub size_wrong : (l : List ℕ) (n number : ℕ) → n ≤ 28 → bad number ≡ size_in n (later_in l) → bad number ≡ named_in l (name_as n)
-unfolding named_in name_as size_in pick next
-size_wrong l n number h e = sym (rw (le-leb n 28 h, counted_next (length (columns_at n)) (tail_at n) (later_in l) 0 (row_in l (name_at n)), ← e) refl)
+pub size_wrong : (l : List ℕ) (n : Name) (number : ℕ) → bad number ≡ size_in n (later_in l) → bad number ≡ named_in l (name_as (Some n))
+unfolding named_in name_as size_in next
+size_wrong l n number e = sym (rw (counted_next (length (columns_at n)) (tail_at n) (later_in l) 0 (row_in l (name_at n)), ← e) refl)
 
-pub size_right : (l : List ℕ) (n len : ℕ) → n ≤ 28 → good len ≡ size_in n (later_in l) → row_in l (name_at n) ≡ named_in l (name_as n)
-unfolding named_in name_as size_in pick next
-size_right l n len h e = sym (rw (le-leb n 28 h, counted_next (length (columns_at n)) (tail_at n) (later_in l) 0 (row_in l (name_at n)), ← e) refl)
+pub size_right : (l : List ℕ) (n : Name) (len : ℕ) → good len ≡ size_in n (later_in l) → row_in l (name_at n) ≡ named_in l (name_as (Some n))
+unfolding named_in name_as size_in next
+size_right l n len e = sym (rw (counted_next (length (columns_at n)) (tail_at n) (later_in l) 0 (row_in l (name_at n)), ← e) refl)
 
-pub name_wrong : (l : List ℕ) (n : ℕ) → 28 < n → bad 23 ≡ named_in l (name_as n)
-unfolding named_in name_as pick next
-name_wrong l n h = rw (lt-leb n 28 h) refl
+pub name_wrong : (l : List ℕ) → bad 23 ≡ named_in l (name_as None)
+unfolding named_in name_as next
+name_wrong l = refl
 
 -- ---- the fields, then the name
 

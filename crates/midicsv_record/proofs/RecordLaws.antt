@@ -1,27 +1,28 @@
 -- The record of a line from its parts, read in turn.
-use mathlib.Core.Path.{◌≡◌, refl}
+use mathlib.Core.Path.{◌≡◌, refl, ap, ◌∙◌}
 use Rattle.std.specs.Prelude.{Option, Some}
 use Prim.Native.Nat.{ℕ}
 use mathlib.Core.Bool.{true, false}
 use mathlib.Core.List.{List, [], ◌∷◌}
 use lib.ListN.{drop}
-use Rattle.event.specs.Outcome.{ok, refused, and_then, value_or}
+use Rattle.event.specs.Outcome.{ok, refused, and_then}
 use Rattle.midicsv.specs.Table.{Column}
-use Rattle.midicsv.specs.Result.{bad, test}
+use Rattle.midicsv.specs.Result.{test}
 use Rattle.midicsv.specs.Names.{name_from}
 use Rattle.midicsv.specs.ReadRecord.{read_column, together, with_values}
 use Rattle.midicsv_scan.specs.FieldAt.{field_as, next_of}
 use Rattle.midicsv_scan.specs.declared.FieldAt.{FieldAt}
-use Rattle.midicsv_scan.specs.declared.FieldAt.TheVariants.{Number, Minus, Name, Quoted}
-use Rattle.midicsv_record.specs.Row.{name_at, body_in, columns_in, record_in}
+use Rattle.midicsv_record.specs.Name.{name_at, name_as}
+use Rattle.midicsv_record.specs.declared.Name.{Name}
+use Rattle.midicsv_record.specs.Row.{body_in, columns_in, record_in}
 use Rattle.midicsv_record.specs.Table.{columns_at, tail_at}
 use Rattle.midicsv_record.specs.InTurn.{field_after, fitting, column_after, columns_after, last_after, values_after, named_after, record_after}
 use Rattle.midicsv_record.specs.Column.{field_in, value_as}
 use Rattle.midicsv_record.specs.declared.Row.{Row}
-use Rattle.midicsv_record.proofs.InTurnLaws.{column_fits}
+use Rattle.midicsv_record.proofs.InTurnLaws.{field_fits, column_fits, then_then}
 use Rattle.midicsv_record.proofs.LineLaws.{together_cut}
 
-module _ (track time n : ℕ) (r : List ℕ) where
+module _ (track time : ℕ) (n : Name) (r : List ℕ) where
   -- a column that does not fit
   pub no_columns : refused 22 0 ≡ columns_after (columns_at n) r → refused 22 0 ≡ named_after track time (name_at n) r
   unfolding named_after values_after and_then
@@ -45,13 +46,16 @@ module _ (l : List ℕ) (row : Row) (r q : List ℕ) (e : ok (columns_in row) q 
   unfolding named_after values_after and_then fitting with_values test
   named_apart t = rw (← e, ← f, together_cut (name_at row.name) row.columns, ← t) refl
 
--- a third field that is no name
-pub after_no_name : (track time : ℕ) (l r : List ℕ) (f : FieldAt) → field_as l (Some f) ≡ field_after r → bad 23 ≡ name_from (field_in l f) → refused 22 0 ≡ record_after track time r
-unfolding record_after fitting and_then field_as value_or
-after_no_name track time l r (Number v q) e n = rw (← e, ← n) refl
-after_no_name track time l r (Minus v q) e n = rw (← e, ← n) refl
-after_no_name track time l r (Name s d q) e n = rw (← e, ← n) refl
-after_no_name track time l r (Quoted s q) e n = rw (← e, ← n) refl
+-- ---- the name
+
+-- the name that the code found in a field
+pub name_told : (track time : ℕ) (l r : List ℕ) (f : FieldAt) (m : Option Name) → field_as l (Some f) ≡ field_after r → name_as m ≡ name_from (field_in l f)
+    → and_then (fitting (name_as m) (drop (next_of f) l)) (named_after track time) ≡ record_after track time r
+unfolding record_after
+name_told track time l r f m e z =
+    rw z
+    (ap (λ x. and_then x (named_after track time)) (field_fits name_from l r f e)
+    ∙ then_then (field_after r) (λ x q. fitting (name_from x) q) (named_after track time))
 
 -- ---- Track and Time
 

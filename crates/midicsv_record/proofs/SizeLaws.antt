@@ -12,6 +12,7 @@ use Rattle.midicsv.specs.Field.{Field, num}
 use Rattle.midicsv.specs.Table.{none, one_text, sized}
 use Rattle.midicsv.specs.Result.{Result, good, bad, next, test}
 use Rattle.midicsv.specs.ReadRecord.{size_of, counted}
+use Rattle.midicsv_record.specs.declared.Name.{Name}
 use Rattle.midicsv_record.specs.Table.{columns_at, tail_at}
 use Rattle.midicsv_record.specs.Column.{fields_in, later_in}
 use Rattle.midicsv_record.specs.Line.{Fields, size_in}
@@ -24,7 +25,7 @@ same_test m a b c d f g =
     (λ t. let e = eqb-true a b t in rw (t, eq-eqb c d (f e)) refl)
     (λ t. let n = eqb-false a b t in rw (t, ne_eqb c d (λ z. n (g z))) refl)
 
-module _ (l : List ℕ) (count n : ℕ) (a : Fields l count) where
+module _ (l : List ℕ) (count : ℕ) (n : Name) (a : Fields l count) where
   later_count : length (later_in l) + 3 ≡ count
   later_count = omega (arith, a.counts, a.three, length-drop 3 (fields_in l))
 

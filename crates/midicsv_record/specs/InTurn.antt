@@ -127,7 +127,7 @@ unfoldable pub row_as : List ℕ → Option Row → Outcome Record
 row_as l (Some row) = ok (record_in l row) []
 row_as l None = refused 22 0
 
--- its name is listed, and what has a place stands in the line
+-- what has a place stands in the line
 unfoldable pub RowInside : List ℕ → Option Row → Type 0
-RowInside l (Some row) = (row.name ≤ 28) × (row.start ≤ length l) × (row.len ≤ length l)
+RowInside l (Some row) = (row.start ≤ length l) × (row.len ≤ length l)
 RowInside l None = Unit {0}

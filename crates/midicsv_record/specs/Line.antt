@@ -9,6 +9,7 @@ use Rattle.midicsv.specs.Record.{Record}
 use Rattle.midicsv.specs.ReadField.{all_fields}
 use Rattle.midicsv.specs.Result.{Result, good, bad, next}
 use Rattle.midicsv.specs.ReadRecord.{counted, read_column, read_columns, with_values}
+use Rattle.midicsv_record.specs.declared.Name.{Name}
 use Rattle.midicsv_record.specs.Table.{columns_at, tail_at}
 use Rattle.midicsv_record.specs.Column.{fields_in, later_in}
 
@@ -19,7 +20,7 @@ pub record Fields (l : List ℕ) (count : ℕ) : Type 0 where
   pub three : 3 ≤ count
 
 -- the fields after the name counted: as many as the name n and its Length want, or 24 or 25
-unfoldable pub size_in : ℕ → List Field → Result ℕ
+unfoldable pub size_in : Name → List Field → Result ℕ
 size_in n fs = counted (length (columns_at n)) (tail_at n) fs (good 0)
 
 -- the same of the answer

@@ -11,15 +11,8 @@ use Rattle.midicsv.specs.Names.{all_names}
 use Rattle.midicsv.specs.ReadField.{plain, read_field}
 use Rattle.midicsv.specs.Result.{Result, good, bad}
 use Rattle.midicsv_scan.specs.Unquoted.{unquoted}
+use Rattle.midicsv_record.specs.Name.{name_at}
 use Rattle.midicsv_record.specs.declared.Row.{Row}
-
--- the code has a name as its number in the list of names, from 0
-abbrev pub name_at : ℕ → RecordName
-name_at n = get_or all_names n end_of_file
-
--- 29 and more are no name: 23
-unfoldable pub name_as : ℕ → Result RecordName
-name_as n = pick (leb n 28) (good (name_at n)) (bad 23)
 
 -- a data byte, of a field that is one
 unfoldable pub byte_in : Outcome Field → ℕ
@@ -65,7 +58,7 @@ unfoldable pub line_as : List ℕ → CodeResult Row Refusal → Result Record
 line_as l (Ok r) = good (record_in l r)
 line_as l (Err e) = bad (number_of e)
 
--- the name is listed, and what has a place stands in the line
+-- what has a place stands in the line
 unfoldable pub Placed : List ℕ → CodeResult Row Refusal → Type 0
-Placed l (Ok r) = (r.name ≤ 28) × (r.start ≤ length l) × (r.len ≤ length l)
+Placed l (Ok r) = (r.start ≤ length l) × (r.len ≤ length l)
 Placed l (Err e) = Unit {0}

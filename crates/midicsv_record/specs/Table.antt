@@ -1,21 +1,22 @@
--- The table of records as the code has it, by the name's number.
+-- The table of records as the code has it, by the name.
 use Rattle.std.specs.Prelude.{ℕ, List, [], ◌∷◌}
 use Rattle.midicsv.specs.Field.{Field}
 use Rattle.midicsv.specs.Table.{Column, range, key, mode, free_type, division, Tail, none, one_text, sized, shape}
 use Rattle.midicsv.specs.Result.{Result, good}
 use Rattle.midicsv.specs.ReadRecord.{read_column}
-use Rattle.midicsv_record.specs.Row.{name_at}
+use Rattle.midicsv_record.specs.Name.{name_at}
+use Rattle.midicsv_record.specs.declared.Name.{Name}
 use Rattle.midicsv_record.specs.declared.ColumnKind.{ColumnKind}
 use Rattle.midicsv_record.specs.declared.ColumnKind.TheVariants.{Range, Key, Mode, FreeType, Division, NoColumn}
 use Rattle.midicsv_record.specs.declared.TailKind.{TailKind}
 use Rattle.midicsv_record.specs.declared.TailKind.TheVariants.{NoTail, OneText, Sized}
 
 -- the columns of the name n
-abbrev pub columns_at : ℕ → List Column
+abbrev pub columns_at : Name → List Column
 columns_at n = (shape (name_at n)).columns
 
 -- what follows the columns of the name n
-abbrev pub tail_at : ℕ → Tail
+abbrev pub tail_at : Name → Tail
 tail_at n = (shape (name_at n)).tail
 
 -- the column, where there is one

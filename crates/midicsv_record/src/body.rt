@@ -7,7 +7,7 @@ ghost use Rattle.midicsv_record.specs.InTurn.{last_after, tail_step_as, TailInsi
 use super::column::{number_in, number_of};
 use super::in_turn::field_after;
 use super::table::tail_kind;
-use super::{BodyPlace, TailKind};
+use super::{BodyPlace, Name, TailKind};
 use midicsv_scan::FieldAt;
 
 // A Text: the field after a comma must be quoted, and the last.
@@ -69,8 +69,7 @@ fn sized_after(line: &[u8], comma: usize) -> Option<BodyPlace>
 }
 
 // The Text or the Data of a record, of the fields after a comma, which must end the line.
-pub fn tail_after(line: &[u8], comma: usize, name: u8) -> Option<BodyPlace>
-    requires { name ≤ 28 }
+pub fn tail_after(line: &[u8], comma: usize, name: Name) -> Option<BodyPlace>
     ensures fact_1 { tail_step_as (tail_at name) line.now result ≡ last_after (tail_at name) (drop comma line.now) }
     ensures fact_2 { TailInside line.now result }
 {

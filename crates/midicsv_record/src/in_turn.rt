@@ -6,7 +6,7 @@ ghost use Rattle.midicsv_record.specs.InTurn.{field_after, columns_after, cell_a
 
 use super::column::value_in;
 use super::table::{column_at, column_count};
-use super::{Cell, Columns};
+use super::{Cell, Columns, Name};
 use midicsv_scan::FieldAt;
 use midicsv_scan::field::field_at;
 
@@ -22,8 +22,7 @@ pub fn field_after(line: &[u8], comma: usize) -> Option<FieldAt>
 }
 
 // The number of the column so numbered from 0, of the field after a comma; 0 past the last column, and then no field is read.
-fn column_after(line: &[u8], comma: usize, name: u8, i: usize) -> Option<Cell>
-    requires { name ≤ 28 }
+fn column_after(line: &[u8], comma: usize, name: Name, i: usize) -> Option<Cell>
     ensures { cell_as line.now result ≡ first_after (drop i (columns_at name)) (drop comma line.now) }
 {
     if column_count(name) <= i {
@@ -41,8 +40,7 @@ fn column_after(line: &[u8], comma: usize, name: u8, i: usize) -> Option<Cell>
 }
 
 // The numbers of all columns, of the fields after a comma; no record has more than five.
-pub fn columns_after(line: &[u8], comma: usize, name: u8) -> Option<Columns>
-    requires { name ≤ 28 }
+pub fn columns_after(line: &[u8], comma: usize, name: Name) -> Option<Columns>
     ensures { columns_as (columns_at name) line.now result ≡ columns_after (columns_at name) (drop comma line.now) }
 {
     let mut values = [0; 5];

@@ -1,7 +1,7 @@
 // A line's record: its name, its numbers, and where its Text or Data stand.
 #![tactic(auto)]
 
-mod name; // name.rt: the names of records
+mod names; // names.rt: the names of records
 mod table; // table.rt: the columns and the tail of each record
 pub mod text; // text.rt: a quoted text beside a word
 mod column; // column.rt: fields beside their columns
@@ -11,12 +11,45 @@ mod record; // record.rt: the record of a line that has no fault
 mod refusal; // refusal.rt: the refusal of a line that has one
 pub mod line; // line.rt: the record of a line, or its refusal
 
-// A record: its name by its number in the list of names, Track, Time, up to five numbers (0 past
-// those that the name has), and where in the line its Text begins, after the quote, or its Data;
-// len is the number of the Data.
+// The names of records, in the order of the list of names.
+#[derive(Clone, Copy, PartialEq, Eq)]
+pub enum Name {
+    Header,
+    StartTrack,
+    EndOfFile,
+    NoteOff,
+    NoteOn,
+    PolyAftertouch,
+    Control,
+    Program,
+    ChannelAftertouch,
+    PitchBend,
+    SystemExclusive,
+    SystemExclusivePacket,
+    SequenceNumber,
+    Text,
+    Copyright,
+    Title,
+    InstrumentName,
+    Lyric,
+    Marker,
+    CuePoint,
+    ChannelPrefix,
+    MidiPort,
+    EndTrack,
+    Tempo,
+    SmpteOffset,
+    TimeSignature,
+    KeySignature,
+    SequencerSpecific,
+    UnknownMetaEvent,
+}
+
+// A record: its name, Track, Time, up to five numbers (0 past those that the name has), and where in
+// the line its Text begins, after the quote, or its Data; len is the number of the Data.
 #[derive(Clone, Copy)]
 pub struct Row {
-    pub name: u8,
+    pub name: Name,
     pub track: u32,
     pub time: u32,
     pub columns: [u32; 5],

@@ -1,31 +1,28 @@
 // The record of a line that has no fault, its fields read in turn.
 ghost use Rattle.std.specs.Prelude.{◌≡◌, ◌≤◌, drop};
-ghost use Rattle.midicsv_record.specs.Row.{name_at};
+ghost use Rattle.midicsv_record.specs.Name.{name_at};
 ghost use Rattle.midicsv.specs.ReadRecord.{together};
 ghost use Rattle.midicsv_record.specs.InTurn.{named_after, record_after, record_in_turn, row_as, RowInside};
 
-use super::Row;
 use super::body::tail_after;
 use super::column::number_in;
 use super::in_turn::{columns_after, field_after};
-use super::name::find_name;
-use midicsv_scan::FieldAt;
+use super::names::name_of;
+use super::{Name, Row};
 use midicsv_scan::field::field_at;
 
 // Whether the numbers go together: a Header of format 0 has one track.
-fn is_together(name: u8, columns: [u32; 5]) -> bool
-    requires { name ≤ 28 }
+fn is_together(name: Name, columns: [u32; 5]) -> bool
     ensures { result ≡ together (name_at name) columns }
 {
-    if name != 0 {
-        return true;
+    match name {
+        Name::Header => columns[0] != 0 || columns[1] == 1,
+        _ => true,
     }
-    columns[0] != 0 || columns[1] == 1
 }
 
 // The record of a listed name, of the fields after the name's comma.
-fn named_row(line: &[u8], comma: usize, name: u8, track: u32, time: u32) -> Option<Row>
-    requires { name ≤ 28 }
+fn named_row(line: &[u8], comma: usize, name: Name, track: u32, time: u32) -> Option<Row>
     ensures fact_1 { row_as line.now result ≡ named_after track time (name_at name) (drop comma line.now) }
     ensures fact_2 { RowInside line.now result }
 {
@@ -50,14 +47,9 @@ fn row_after(line: &[u8], comma: usize, track: u32, time: u32) -> Option<Row>
     ensures fact_1 { row_as line.now result ≡ record_after track time (drop comma line.now) }
     ensures fact_2 { RowInside line.now result }
 {
-    let FieldAt::Name { start, end, next } = field_after(line, comma)? else {
-        return None;
-    };
-    let name = find_name(&line[start..end]);
-    if 28 < name {
-        return None;
-    }
-    named_row(line, next, name, track, time)
+    let f = field_after(line, comma)?;
+    let name = name_of(line, f)?;
+    named_row(line, f.next(), name, track, time)
 }
 
 // The record of a line: Track, Time, name, and the fields of the name.

@@ -4,17 +4,16 @@ ghost use Rattle.event.specs.Refusal.{number_of};
 ghost use Rattle.midicsv.specs.Result.{good, bad, test};
 ghost use Rattle.midicsv.specs.ReadRecord.{read_line};
 ghost use Rattle.midicsv_scan.specs.FieldAt.{Counted};
-ghost use Rattle.midicsv_record.specs.Row.{name_as};
+ghost use Rattle.midicsv_record.specs.Name.{name_as};
 ghost use Rattle.midicsv_record.specs.Column.{later_in};
 ghost use Rattle.midicsv_record.specs.Line.{Fields, size_in, size_as, named_in};
 ghost use Rattle.midicsv_record.specs.InTurn.{Refused};
 
-use super::TailKind;
 use super::column::number_of;
-use super::name::find_name;
+use super::names::name_of;
 use super::table::{column_count, tail_kind};
+use super::{Name, TailKind};
 use event::refusal::Refusal;
-use midicsv_scan::FieldAt;
 use midicsv_scan::fields::{count_fields, field};
 
 // 24 where the count of fields is not the one that is wanted.
@@ -28,9 +27,8 @@ fn size_step(count: usize, wanted: usize) -> Result<(), Refusal>
 }
 
 // The count of fields beside the name's columns and tail, and the Length: 24, 25, 24.
-fn size_of(line: &[u8], count: usize, name: u8) -> Result<(), Refusal>
-    requires fact_1 { name ≤ 28 }
-    requires fact_2 { Fields line.now count }
+fn size_of(line: &[u8], count: usize, name: Name) -> Result<(), Refusal>
+    requires { Fields line.now count }
     ensures { size_as result ≡ size_in name (later_in line.now) }
 {
     let k = 3 + column_count(name);
@@ -50,15 +48,15 @@ fn size_of(line: &[u8], count: usize, name: u8) -> Result<(), Refusal>
     }
 }
 
-// A line by the number of its name: 23, the size, and else it is 25.
-fn named_refusal(line: &[u8], count: usize, name: u8) -> Refusal
+// A line by its name: 23 where it has none, the size, and else it is 25.
+fn named_refusal(line: &[u8], count: usize, name: Option<Name>) -> Refusal
     requires fact_1 { Fields line.now count }
     requires fact_2 { Refused (named_in line.now (name_as name)) }
     ensures { bad (number_of result) ≡ named_in line.now (name_as name) }
 {
-    if 28 < name {
+    let Some(name) = name else {
         return Refusal::UnknownRecord;
-    }
+    };
     match size_of(line, count, name) {
         Ok(()) => Refusal::FieldOutOfRange,
         Err(refusal) => refusal,
@@ -77,10 +75,7 @@ fn counted_refusal(line: &[u8], count: usize) -> Refusal
     let Some(third) = field(line, 2) else {
         return Refusal::UnknownRecord;
     };
-    let FieldAt::Name { start, end, .. } = third else {
-        return Refusal::UnknownRecord;
-    };
-    let name = find_name(&line[start..end]);
+    let name = name_of(line, third);
     named_refusal(line, count, name)
 }
 

@@ -1,62 +1,51 @@
-// The table of records: the columns and the tail of each, by the name's number in the list of names.
-ghost use Rattle.std.specs.Prelude.{◌≡◌, ◌≤◌, ◌<◌, eqb, length, take, drop};
+// The table of records: the columns and the tail of each.
+ghost use Rattle.std.specs.Prelude.{◌≡◌, ◌<◌, eqb, length, take, drop};
 ghost use Rattle.event.specs.Choice.{pick};
 ghost use Rattle.midicsv_record.specs.Table.{columns_at, tail_at, column_as, tail_as};
 ghost use Rattle.midicsv_record.specs.declared.ColumnKind.TheVariants.{Range};
+ghost use Rattle.midicsv_record.specs.declared.Name.TheVariants.{Header};
 
-use super::{ColumnKind, TailKind};
-
-// How many columns a record has whose name stands from Channel_prefix on.
-fn late_count(name: u8) -> usize
-    requires fact_1 { 20 ≤ name }
-    requires fact_2 { name ≤ 28 }
-    ensures { result ≡ length (columns_at name) }
-{
-    match name {
-        22 => 0,
-        24 => 5,
-        25 => 4,
-        26 => 2,
-        27 => 0,
-        _ => 1,
-    }
-}
+use super::{ColumnKind, Name, TailKind};
 
 // How many columns a record has.
-pub fn column_count(name: u8) -> usize
-    requires { name ≤ 28 }
+#[tactic(auto, unfolding(midicsv::specs::Table::shape, midicsv::specs::Table::event_shape))]
+pub fn column_count(name: Name) -> usize
     ensures { result ≡ length (columns_at name) }
 {
     match name {
-        0 => 3,
-        12 => 1,
-        1..=2 => 0,
-        3..=6 => 3,
-        7..=9 => 2,
-        10..=11 | 13..=19 => 0,
-        20..=255 => late_count(name),
+        Name::SmpteOffset => 5,
+        Name::TimeSignature => 4,
+        Name::Header => 3,
+        Name::NoteOff | Name::NoteOn | Name::PolyAftertouch | Name::Control => 3,
+        Name::Program | Name::ChannelAftertouch | Name::PitchBend => 2,
+        Name::KeySignature => 2,
+        Name::SequenceNumber | Name::ChannelPrefix | Name::MidiPort | Name::Tempo => 1,
+        Name::UnknownMetaEvent => 1,
+        Name::StartTrack | Name::EndOfFile | Name::EndTrack => 0,
+        Name::SystemExclusive | Name::SystemExclusivePacket | Name::SequencerSpecific => 0,
+        Name::Text | Name::Copyright | Name::Title | Name::InstrumentName => 0,
+        Name::Lyric | Name::Marker | Name::CuePoint => 0,
     }
 }
 
 // What follows the columns of a record.
-pub fn tail_kind(name: u8) -> TailKind
-    requires { name ≤ 28 }
+#[tactic(auto, unfolding(midicsv::specs::Table::shape, midicsv::specs::Table::event_shape, crate::specs::Table::tail_as))]
+pub fn tail_kind(name: Name) -> TailKind
     ensures { tail_as result ≡ tail_at name }
 {
     match name {
-        0..=9 => TailKind::NoTail,
-        10..=11 => TailKind::Sized,
-        12 => TailKind::NoTail,
-        13..=19 => TailKind::OneText,
-        20..=26 => TailKind::NoTail,
-        27..=255 => TailKind::Sized,
+        Name::SystemExclusive | Name::SystemExclusivePacket => TailKind::Sized,
+        Name::SequencerSpecific | Name::UnknownMetaEvent => TailKind::Sized,
+        Name::Text | Name::Copyright | Name::Title | Name::InstrumentName => TailKind::OneText,
+        Name::Lyric | Name::Marker | Name::CuePoint => TailKind::OneText,
+        _ => TailKind::NoTail,
     }
 }
 
 // The columns of the Header: format, tracks, division.
 fn header_column(i: usize) -> ColumnKind
     requires { i < 3 }
-    ensures { column_as result ≡ take 1 (drop i (columns_at 0)) }
+    ensures { column_as result ≡ take 1 (drop i (columns_at Header)) }
 {
     match i {
         0 => ColumnKind::Range { lo: 0, hi: 2 },
@@ -75,31 +64,35 @@ fn range_at(i: usize, one: usize, hi: u32, rest: u32) -> ColumnKind
     ColumnKind::Range { lo: 0, hi: rest }
 }
 
-// The column so numbered from 0; names without columns stand in the ranges of their neighbours.
-pub fn column_at(name: u8, i: usize) -> ColumnKind
-    requires { name ≤ 28 }
+// The column so numbered from 0.
+pub fn column_at(name: Name, i: usize) -> ColumnKind
     ensures { column_as result ≡ take 1 (drop i (columns_at name)) }
 {
     if column_count(name) <= i {
         return ColumnKind::NoColumn;
     }
     match name {
-        0 => header_column(i),
-        1..=8 => range_at(i, 0, 15, 127),
-        9 => range_at(i, 0, 15, 16383),
-        10..=19 => ColumnKind::Range { lo: 0, hi: 65535 },
-        20..=22 => ColumnKind::Range { lo: 0, hi: 255 },
-        23 => ColumnKind::Range {
+        Name::Header => header_column(i),
+        Name::NoteOff | Name::NoteOn | Name::PolyAftertouch | Name::Control => {
+            range_at(i, 0, 15, 127)
+        }
+        Name::Program | Name::ChannelAftertouch => range_at(i, 0, 15, 127),
+        Name::PitchBend => range_at(i, 0, 15, 16383),
+        Name::SequenceNumber => ColumnKind::Range { lo: 0, hi: 65535 },
+        Name::ChannelPrefix | Name::MidiPort => ColumnKind::Range { lo: 0, hi: 255 },
+        Name::Tempo => ColumnKind::Range {
             lo: 1,
             hi: 16777215,
         },
-        24..=25 => range_at(i, 4, 99, 255),
-        26 => {
-            if i == 0 {
-                return ColumnKind::Key;
-            }
-            ColumnKind::Mode
-        }
-        27..=255 => ColumnKind::FreeType,
+        Name::SmpteOffset => range_at(i, 4, 99, 255),
+        Name::TimeSignature => ColumnKind::Range { lo: 0, hi: 255 },
+        Name::KeySignature if i == 0 => ColumnKind::Key,
+        Name::KeySignature => ColumnKind::Mode,
+        Name::UnknownMetaEvent => ColumnKind::FreeType,
+        Name::StartTrack | Name::EndOfFile | Name::EndTrack => ColumnKind::NoColumn,
+        Name::SystemExclusive | Name::SystemExclusivePacket => ColumnKind::NoColumn,
+        Name::SequencerSpecific => ColumnKind::NoColumn,
+        Name::Text | Name::Copyright | Name::Title | Name::InstrumentName => ColumnKind::NoColumn,
+        Name::Lyric | Name::Marker | Name::CuePoint => ColumnKind::NoColumn,
     }
 }

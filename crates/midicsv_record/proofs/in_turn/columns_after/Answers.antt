@@ -3,7 +3,7 @@ use mathlib.Core.List.{[]}
 use Prim.Native.Nat.{ℕ}
 use native.Mathlib.Omega.{arith}
 use mathlib.Core.Path.{◌≡◌, refl, ◌∙◌}
-use Rattle.midicsv_record.specs.Row.{name_at}
+use Rattle.midicsv_record.specs.Name.{name_at}
 use Rattle.midicsv_record.specs.Table.{columns_at}
 use Rattle.midicsv_record.specs.InTurn.{cell_as, columns_as}
 use Rattle.midicsv_record.proofs.FiveLaws.{few_columns}

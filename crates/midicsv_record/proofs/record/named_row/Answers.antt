@@ -25,4 +25,4 @@ returns c =
     let a = c.args in
     let row : Row = record { name = a.name; track = a.track; time = a.time; columns = c.in_ok-found.found.values; start = c.in_ok-body.body.start; len = c.in_ok-body.body.len } in
     let inside = c.in_ok-body.ensures.fact_2 in
-    record { fact_1 = named_good a.line.now row _ _ c.in_ok-found.ensures c.in_ok-body.ensures.fact_1 (sym c.if-not-is_together.false ∙ c.is_together.ensures); fact_2 = (c.requires, inside.0, inside.1) }
+    record { fact_1 = named_good a.line.now row _ _ c.in_ok-found.ensures c.in_ok-body.ensures.fact_1 (sym c.if-not-is_together.false ∙ c.is_together.ensures); fact_2 = (inside.0, inside.1) }

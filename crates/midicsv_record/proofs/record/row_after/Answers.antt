@@ -1,42 +1,33 @@
-use mathlib.Core.Path.{subst, refl}
-use Rattle.event.specs.Choice.{pick}
+use Rattle.std.specs.Prelude.{Some, None}
 use Rattle.event.specs.Outcome.{and_then}
-use Rattle.midicsv.specs.Names.{name_from}
-use Rattle.midicsv_scan.specs.FieldAt.{field_as, Within}
-use Rattle.midicsv_record.specs.Row.{name_as}
+use Rattle.midicsv_scan.specs.FieldAt.{field_as}
+use Rattle.midicsv_scan.proofs.FieldLaws.{within_from}
+use Rattle.midicsv_record.specs.Name.{name_as}
 use Rattle.midicsv_record.specs.InTurn.{fitting, record_after, row_as, RowInside}
-use borrow.Author.Tests.{le-leb, lt-leb}
+use Rattle.midicsv_record.proofs.RecordLaws.{name_told}
 use lib.ListN.{drop}
-use Rattle.midicsv_record.proofs.RecordLaws.{after_no_name}
-use Rattle.midicsv_record.proofs.OtherFieldLaws.{no_name}
+use native.Mathlib.Omega.{arith}
+use mathlib.Core.Path.{refl, ◌∙◌}
 use Rattle.midicsv_record.proofs.record.row_after.Goals as goal
 
-pub returns-in_err-start : goal.returns-in_err-start
+pub returns-in_err-f : goal.returns-in_err-f
 unfolding row_as RowInside record_after and_then field_as
-returns-in_err-start c = rw c.from_residual.ensures (record { fact_1 = rw (← c.in_err-start.ensures.fact_1) refl; fact_2 = tt })
+returns-in_err-f c = rw c.from_residual.ensures (record { fact_1 = rw (← c.in_err-f.ensures.fact_1) refl; fact_2 = tt })
 
-pub returns-in_default : goal.returns-in_default
-unfolding row_as RowInside
-returns-in_default c =
-    let l = c.args.line.now in
-    record { fact_1 = after_no_name c.args.track c.args.time l (drop c.args.comma l) c.in_ok-start.field-0 c.in_ok-start.ensures.fact_1 (no_name l _ c.in_default.not-Name); fact_2 = tt }
+pub name_of-requires : goal.name_of-requires
+name_of-requires c = within_from c.args.line.now 0 c.args.comma _ (omega arith) c.in_ok-f.ensures.fact_2
 
-pub slice_bounds-find_name-count : goal.slice_bounds-find_name-count
-unfolding Within
-slice_bounds-find_name-count c = (rw c.in-Name.is at c.in_ok-start.ensures.fact_2).0
-
-pub slice_bounds-find_name-start : goal.slice_bounds-find_name-start
-unfolding Within
-slice_bounds-find_name-start c = (rw c.in-Name.is at c.in_ok-start.ensures.fact_2).0
-
-pub slice_bounds-find_name-end : goal.slice_bounds-find_name-end
-unfolding Within
-slice_bounds-find_name-end c = (rw c.in-Name.is at c.in_ok-start.ensures.fact_2).1
-
-pub returns-then-name-gt28 : goal.returns-then-name-gt28
-unfolding row_as RowInside record_after and_then fitting name_from name_as pick field_as
-returns-then-name-gt28 c = record { fact_1 = rw (← (rw c.in-Name.is at c.in_ok-start.ensures.fact_1), ← c.find_name-name.ensures, lt-leb _ 28 c.if-name-gt28.true) refl; fact_2 = tt }
+pub returns-in_err-name : goal.returns-in_err-name
+unfolding row_as RowInside name_as fitting and_then
+returns-in_err-name c =
+    let a = c.args in
+    let l = a.line.now in
+    rw c.from_residual-in_err-name.ensures (record { fact_1 = name_told a.track a.time l (drop a.comma l) c.in_ok-f.f None c.in_ok-f.ensures.fact_1 c.in_err-name.ensures; fact_2 = tt })
 
 pub returns : goal.returns
-unfolding row_as RowInside record_after and_then fitting name_from name_as pick field_as
-returns c = record { fact_1 = rw (← (rw c.in-Name.is at c.in_ok-start.ensures.fact_1), ← c.find_name-name.ensures, le-leb _ 28 c.if-name-gt28.false) c.named_row.ensures.fact_1; fact_2 = c.named_row.ensures.fact_2 }
+unfolding name_as fitting and_then
+returns c =
+    let a = c.args in
+    let l = a.line.now in
+    let r = c.named_row.ensures in
+    record { fact_1 = (rw c.next.ensures at r.fact_1) ∙ name_told a.track a.time l (drop a.comma l) c.in_ok-f.f (Some c.in_ok-name.name) c.in_ok-f.ensures.fact_1 c.in_ok-name.ensures; fact_2 = r.fact_2 }

@@ -2,7 +2,7 @@ use Prim.Native.Nat.{◌+◌, ◌<◌}
 use lib.ListN.{length, get_or}
 use Rattle.midicsv.specs.Field.{num}
 use Rattle.midicsv.specs.Table.{none, one_text, sized}
-use Rattle.midicsv_record.specs.Row.{name_at}
+use Rattle.midicsv_record.specs.Name.{name_at}
 use Rattle.midicsv_record.specs.Table.{columns_at, tail_at, tail_as}
 use Rattle.midicsv_record.specs.Column.{field_in, fields_in, value_as}
 use Rattle.midicsv_record.specs.Line.{size_as}
@@ -26,7 +26,7 @@ unfolding tail_as size_as value_as
 returns-then-count-k c =
     let a = c.args in
     let e : tail_at a.name ≡ sized = sym c.tail_kind.ensures ∙ ap tail_as c.in-Sized.is in
-    size_missing a.line.now a.count a.name c.requires.fact_2 e (rw c.column_count-k.ensures at c.if-count-k.true)
+    size_missing a.line.now a.count a.name c.requires e (rw c.column_count-k.ensures at c.if-count-k.true)
 
 pub overflow_add-wanted : goal.overflow_add-wanted
 unfolding tail_as size_as value_as
@@ -41,21 +41,21 @@ unfolding tail_as size_as value_as
 returns-in-NoTail c =
     let a = c.args in
     let e : tail_at a.name ≡ none = sym c.tail_kind.ensures ∙ ap tail_as c.in-NoTail.is in
-    (rw c.column_count-k.ensures at c.size_step.ensures) ∙ size_none a.line.now a.count a.name c.requires.fact_2 e
+    (rw c.column_count-k.ensures at c.size_step.ensures) ∙ size_none a.line.now a.count a.name c.requires e
 
 pub returns-in-OneText : goal.returns-in-OneText
 unfolding tail_as size_as value_as
 returns-in-OneText c =
     let a = c.args in
     let e : tail_at a.name ≡ one_text = sym c.tail_kind.ensures ∙ ap tail_as c.in-OneText.is in
-    (rw c.column_count-k.ensures at c.size_step-in-OneText.ensures) ∙ size_text a.line.now a.count a.name c.requires.fact_2 e
+    (rw c.column_count-k.ensures at c.size_step-in-OneText.ensures) ∙ size_text a.line.now a.count a.name c.requires e
 
 pub returns-in_default : goal.returns-in_default
 unfolding tail_as size_as value_as
 returns-in_default c =
     let a = c.args in
     let l = a.line.now in
-    let f = c.requires.fact_2 in
+    let f = c.requires in
     let e : tail_at a.name ≡ sized = sym c.tail_kind.ensures ∙ ap tail_as c.in-Sized.is in
     let h : 3 + length (columns_at a.name) < a.count = rw c.column_count-k.ensures at c.if-count-k.false in
     let x = number_there l _ c.field.result c.and_then.result f.fields (rw f.counts h) (rw c.column_count-k.ensures at c.field.ensures) c.and_then.ensures in
@@ -66,7 +66,7 @@ unfolding tail_as size_as value_as
 returns-in-Some c =
     let a = c.args in
     let l = a.line.now in
-    let f = c.requires.fact_2 in
+    let f = c.requires in
     let e : tail_at a.name ≡ sized = sym c.tail_kind.ensures ∙ ap tail_as c.in-Sized.is in
     let h : 3 + length (columns_at a.name) < a.count = rw c.column_count-k.ensures at c.if-count-k.false in
     let x = number_there l _ c.field.result c.and_then.result f.fields (rw f.counts h) (rw c.column_count-k.ensures at c.field.ensures) c.and_then.ensures in
