@@ -1,12 +1,13 @@
 // Records in their order: each is taken where it may stand, and its bytes are written. The length of
 // a track is known at its End_track, and is then written over the zero that stood for it.
-ghost use Rattle.std.specs.Prelude.{◌≡◌, true, ◌&&◌, [], ◌+◌, ◌≤◌, ◌<◌, ◌^◌, length, slice_index, eqb};
+ghost use Rattle.std.specs.Prelude.{◌≡◌, ◌↔◌, IsTrue, true, ◌&&◌, [], ◌+◌, ◌≤◌, ◌<◌, ◌^◌, length, slice_index, eqb};
 ghost use Rattle.event_write.specs.Written.{Written};
 ghost use Rattle.event_write.specs.Head.{manner_of};
 ghost use Rattle.smf.specs.Layout.{lay_header};
 ghost use Rattle.smf.specs.Division.{division_ok, division_of};
 ghost use Rattle.midicsv_record.specs.Name.{name_at};
 ghost use Rattle.midicsv_read.specs.RowEvent.{is_event};
+ghost use Rattle.midicsv_read.specs.declared.Phase.TheVariants.{BeforeHeader};
 ghost use Rattle.midicsv_read.specs.Progress.{header_step, start_step, end_step, row_step, line_step, RowOf, InTrack, Follows, FollowsEither, FollowsStill, Near, Sized};
 
 use super::write_row::{put_row, row_kind, status_after};
@@ -25,10 +26,7 @@ const MOST_DELTA: u32 = 268435455;
 fn is_marked(row: Row, track: u32) -> bool
     ensures { result ≡ (eqb row.track track && eqb row.time 0) }
 {
-    if row.track != track {
-        return false;
-    }
-    row.time == 0
+    row.track == track && row.time == 0
 }
 
 // MThd, 6, and the numbers of a Header, its division by its 16 bits.
@@ -44,6 +42,13 @@ fn put_header(out: &mut [u8], at: usize, format: u32, count: u32, bits: u32) -> 
     put_two(out, d, bits)
 }
 
+// Whether no record has been passed yet.
+fn is_first(phase: Phase) -> bool
+    ensures { IsTrue result ↔ phase ≡ BeforeHeader }
+{
+    phase == Phase::BeforeHeader
+}
+
 // A Header stands first.
 fn take_header(out: &mut [u8], st: Progress, row: Row) -> Result<Progress, Refusal>
     requires fact_1 { Sized st }
@@ -52,8 +57,7 @@ fn take_header(out: &mut [u8], st: Progress, row: Row) -> Result<Progress, Refus
     ensures fact_1 { FollowsEither st out.old (header_step row) result out.new }
     ensures fact_2 { Near (st.at + 15) result }
 {
-    let first = st.phase == Phase::BeforeHeader;
-    if !first {
+    if !is_first(st.phase) {
         return Err(Refusal::RecordOutOfOrder);
     }
     if !is_marked(row, 0) {
