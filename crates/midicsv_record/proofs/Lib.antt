@@ -1,5 +1,4 @@
 pub mod TableLaws
-mod ColumnAtLaws
 mod ColumnLaws
 pub mod TextLaws
 mod WordLaws

@@ -97,11 +97,6 @@ unfoldable pub cell_as : List ℕ → Option Cell → Outcome ℕ
 cell_as l (Some c) = ok c.value (drop c.next l)
 cell_as l None = refused 22 0
 
--- the first of the columns; 0 where there is none, and then no field is read
-unfoldable pub first_after : List Column → List ℕ → Outcome ℕ
-first_after [] r = ok 0 r
-first_after (c ∷ cs) r = column_after c r
-
 -- as many numbers as there are columns, and what follows their fields
 unfoldable pub columns_as : List Column → List ℕ → Option Columns → Outcome (List ℕ)
 columns_as cs l (Some c) = ok (take (length cs) c.values) (drop c.next l)

@@ -6,7 +6,7 @@ ghost use Rattle.midicsv.specs.ReadField.{plain};
 ghost use Rattle.midicsv.specs.Table.{range, mode, free_type, division};
 ghost use Rattle.midicsv.specs.ReadRecord.{size_of, is_free, read_signed, read_column};
 ghost use Rattle.midicsv_scan.specs.Unquoted.{unquoted};
-ghost use Rattle.midicsv_record.specs.Table.{column_as, read_first};
+ghost use Rattle.midicsv_record.specs.Table.{column_as};
 ghost use Rattle.midicsv_record.specs.Column.{field_in, value_as, Reads};
 
 use super::ColumnKind;
@@ -103,7 +103,7 @@ fn division_of(f: FieldAt) -> Option<u32>
 
 // The number of a field, by its column.
 pub fn value_in(line: &[u8], f: FieldAt, column: ColumnKind) -> Option<u32>
-    ensures { value_as result ≡ read_first (column_as column) (field_in line.now f) }
+    ensures { value_as result ≡ read_column (column_as column) (field_in line.now f) }
 {
     match column {
         ColumnKind::Range { lo, hi } => number_in(f, lo, hi),
@@ -111,6 +111,5 @@ pub fn value_in(line: &[u8], f: FieldAt, column: ColumnKind) -> Option<u32>
         ColumnKind::Mode => mode_of(line, f),
         ColumnKind::FreeType => free_type(f),
         ColumnKind::Division => division_of(f),
-        ColumnKind::NoColumn => Some(0),
     }
 }

@@ -57,7 +57,7 @@ pub struct Row {
     pub len: usize,
 }
 
-// A column of the table; NoColumn past the last of a name.
+// A column of the table.
 #[derive(Clone, Copy)]
 pub enum ColumnKind {
     Range { lo: u32, hi: u32 },
@@ -65,7 +65,6 @@ pub enum ColumnKind {
     Mode,
     FreeType,
     Division,
-    NoColumn,
 }
 
 // What follows the columns: nothing, a Text, or Length and Data.

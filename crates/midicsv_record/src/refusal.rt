@@ -11,7 +11,7 @@ ghost use Rattle.midicsv_record.specs.InTurn.{Refused};
 
 use super::column::number_of;
 use super::names::name_of;
-use super::table::{column_count, tail_kind};
+use super::table::{columns, tail_kind};
 use super::{Name, TailKind};
 use event::refusal::Refusal;
 use midicsv_scan::fields::{count_fields, field};
@@ -31,7 +31,7 @@ fn size_of(line: &[u8], count: usize, name: Name) -> Result<(), Refusal>
     requires { Fields line.now count }
     ensures { size_as result ≡ size_in name (later_in line.now) }
 {
-    let k = 3 + column_count(name);
+    let k = 3 + columns(name).len();
     match tail_kind(name) {
         TailKind::NoTail => size_step(count, k),
         TailKind::OneText => size_step(count, k + 1),
