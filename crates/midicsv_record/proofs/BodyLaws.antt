@@ -1,7 +1,7 @@
 -- Text and Data read from their place in the line.
 use mathlib.Core.Path.{◌≡◌, refl, sym, ◌∙◌, ap}
 use Rattle.std.specs.Prelude.{Option, Some, None, is_some}
-use Prim.Native.Nat.{ℕ, zero, suc, ◌+◌, ◌-◌, ◌<◌, ◌≤◌}
+use Prim.Native.Nat.{ℕ, zero, suc, ◌+◌, ◌<◌, ◌≤◌}
 use mathlib.Core.Bool.{Bool, true, false, false≢true, ◌&&◌}
 use mathlib.Core.List.{List, [], ◌∷◌}
 use native.Mathlib.Omega.{arith}
@@ -17,7 +17,7 @@ use Rattle.event.proofs.OutcomeLaws.{not_ok, ok_same, and_then_ok}
 use Rattle.midicsv.specs.Field.{Field, num, minus, name, quoted}
 use Rattle.midicsv.specs.Table.{range, sized}
 use Rattle.midicsv.specs.ReadField.{read_field}
-use Rattle.midicsv.specs.Result.{good, bad, test}
+use Rattle.midicsv.specs.Result.{test}
 use Rattle.midicsv.specs.ReadRecord.{size_of, read_column}
 use Rattle.midicsv.proofs.FieldPartLaws.{field_part}
 use Rattle.midicsv_scan.specs.FieldAt.{field_as, next_of}

@@ -1,23 +1,23 @@
 -- Fields and columns read in turn.
 use mathlib.Core.Path.{◌≡◌, refl, sym, ◌∙◌, ap}
-use Rattle.std.specs.Prelude.{Option, Some}
-use Prim.Native.Nat.{ℕ, zero, suc, ◌+◌, ◌-◌, ◌<◌, ◌≤◌}
+use Rattle.std.specs.Prelude.{Some}
+use Prim.Native.Nat.{ℕ, suc, ◌+◌, ◌<◌}
 use mathlib.Core.List.{List, [], ◌∷◌, ◌++◌, map, append_assoc, append-nil}
 use native.Mathlib.Omega.{arith}
 use native.Mathlib.Numerals.{add-one}
 use lib.ListN.{length, get_or, take, drop, set, drop_of_length-le, length-map, get_or-map}
 use lib.Seq.{drop-cons}
-use Rattle.std.proofs.lemmas.List.{take_more_set, take_all}
+use Rattle.std.proofs.lemmas.List.{take_more_set}
 use Rattle.event.specs.Outcome.{Outcome, ok, refused, and_then, value_or}
 use Rattle.event.proofs.OutcomeLaws.{and_then_same}
-use Rattle.midicsv.specs.Field.{Field, name}
-use Rattle.midicsv.specs.Table.{Column, range, key, mode, free_type, division}
-use Rattle.midicsv.specs.Result.{Result, bad, next}
-use Rattle.midicsv.specs.ReadRecord.{read_signed, read_column}
+use Rattle.midicsv.specs.Field.{Field}
+use Rattle.midicsv.specs.Table.{Column}
+use Rattle.midicsv.specs.Result.{Result, next}
+use Rattle.midicsv.specs.ReadRecord.{read_column}
 use Rattle.midicsv_scan.specs.FieldAt.{field_as, next_of}
 use Rattle.midicsv_scan.specs.declared.FieldAt.{FieldAt}
 use Rattle.midicsv_scan.specs.declared.FieldAt.TheVariants.{Number, Minus, Name, Quoted}
-use Rattle.midicsv_record.specs.Column.{field_in, value_as}
+use Rattle.midicsv_record.specs.Column.{field_in}
 use Rattle.midicsv_record.specs.Table.{column_as}
 use Rattle.midicsv_record.specs.InTurn.{field_after, fitting, column_after, columns_after}
 use Rattle.midicsv_record.specs.declared.ColumnKind.{ColumnKind}

@@ -6,15 +6,12 @@ use mathlib.Core.List.{List, [], ◌∷◌}
 use native.Mathlib.Omega.{arith}
 use lib.ListN.{length, get_or, take, drop}
 use lib.Dec.{ltb, eqb}
-use borrow.Author.Tests.{le-leb, lt-leb}
-use Rattle.event.specs.Choice.{pick}
 use Rattle.event.specs.Outcome.{ok, value_or}
-use Rattle.midicsv.specs.Field.{Field, num, name}
-use Rattle.midicsv.specs.Table.{event_spelled, spelled, RecordName, header, start_track, end_of_file, event, Tail, none, one_text, sized, shape}
+use Rattle.midicsv.specs.Field.{Field, num}
+use Rattle.midicsv.specs.Table.{RecordName, header, start_track, end_of_file, event, Tail, none, one_text, sized, shape}
 use Rattle.midicsv.specs.ReadField.{all_fields}
 use Rattle.midicsv.specs.Result.{Result, good, bad, next, test}
-use Rattle.midicsv.specs.Names.{same_name, find, name_from}
-use Rattle.smf.specs.Piece.{tracks_fit}
+use Rattle.midicsv.specs.Names.{name_from}
 use Rattle.midicsv.specs.ReadRecord.{size_of, counted, together, record_of, of_fields, read_line}
 use Rattle.midicsv_scan.specs.FieldAt.{Counted, FieldIs}
 use Rattle.midicsv_record.specs.Name.{name_at, name_as}

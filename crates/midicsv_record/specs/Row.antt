@@ -1,13 +1,11 @@
 -- What the answer about a line l says: the record, its Text or Data by their place in the line.
-use Rattle.std.specs.Prelude.{ℕ, zero, suc, ◌≤◌, ◌%◌, List, [], ◌∷◌, length, get_or, take, drop, leb, Ok, Err, Result as CodeResult}
+use Rattle.std.specs.Prelude.{ℕ, zero, suc, ◌≤◌, ◌%◌, List, [], ◌∷◌, length, take, drop, Ok, Err, Result as CodeResult}
 use Rattle.event.specs.Refusal.{number_of}
 use Rattle.event.specs.declared.refusal.Refusal.{Refusal}
-use Rattle.event.specs.Choice.{pick}
 use Rattle.event.specs.Outcome.{Outcome, ok, refused}
 use Rattle.midicsv.specs.Field.{Field, num, minus, name, quoted}
-use Rattle.midicsv.specs.Table.{RecordName, end_of_file, Tail, none, one_text, sized, shape}
+use Rattle.midicsv.specs.Table.{Tail, none, one_text, sized, shape}
 use Rattle.midicsv.specs.Record.{Record}
-use Rattle.midicsv.specs.Names.{all_names}
 use Rattle.midicsv.specs.ReadField.{plain, read_field}
 use Rattle.midicsv.specs.Result.{Result, good, bad}
 use Rattle.midicsv_scan.specs.Unquoted.{unquoted}

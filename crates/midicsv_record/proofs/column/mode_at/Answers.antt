@@ -1,5 +1,5 @@
 use Rattle.event.specs.Choice.{pick}
-use Rattle.midicsv.specs.Result.{Result, good, bad}
+use Rattle.midicsv.specs.Result.{good, bad}
 use Rattle.midicsv.specs.ReadField.{plain}
 use Rattle.midicsv.specs.ReadRecord.{same_bytes, read_column}
 use Rattle.midicsv_scan.specs.Unquoted.{unquoted}

@@ -1,5 +1,4 @@
 use mathlib.Core.Path.{◌≡◌}
-use Prim.Native.Nat.{ℕ}
 use lib.ListN.{length, drop}
 use Rattle.midicsv_record.specs.Table.{columns_at}
 use Rattle.midicsv_record.proofs.InTurnLaws.{FirstsRead}

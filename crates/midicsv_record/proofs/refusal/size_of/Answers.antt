@@ -1,10 +1,9 @@
 use Prim.Native.Nat.{◌+◌, ◌<◌}
-use lib.ListN.{length, get_or}
-use Rattle.midicsv.specs.Field.{num}
+use lib.ListN.{length}
 use Rattle.midicsv.specs.Table.{none, one_text, sized}
 use Rattle.midicsv_record.specs.Name.{name_at}
 use Rattle.midicsv_record.specs.Table.{columns_at, tail_at, tail_as}
-use Rattle.midicsv_record.specs.Column.{field_in, fields_in, value_as}
+use Rattle.midicsv_record.specs.Column.{value_as}
 use Rattle.midicsv_record.specs.Line.{size_as}
 use Rattle.midicsv_record.proofs.FiveLaws.{few_columns}
 use Rattle.midicsv_record.proofs.InTurnLaws.{columns_counted}
