@@ -18,7 +18,6 @@ use Rattle.midicsv_read.specs.Progress.{bytes_of, At, Answers, Follows, Near, li
 use Rattle.midicsv_read.specs.declared.Progress.{Progress}
 use Rattle.std.specs.Prelude.{Ok, Err, Result as CodeResult}
 use Rattle.event.specs.declared.refusal.Refusal.{Refusal}
-use Rattle.event.specs.declared.refusal.Refusal.TheVariants.{RecordOutOfOrder, StepTooGreat}
 use Rattle.midicsv_read.specs.declared.Phase.{Phase}
 use Rattle.event.specs.Refusal.{number_of}
 use Rattle.midicsv_scan.proofs.CutLaws.{cut_size}

@@ -1,10 +1,10 @@
 -- An event taken: one law for each exit of the code.
 use mathlib.Core.Path.{◌≡◌, refl, sym, ap, ap₂, subst, ◌∙◌}
-use Prim.Native.Nat.{ℕ, zero, suc, ◌+◌, ◌-◌, ◌<◌, ◌≤◌}
-use mathlib.Core.Bool.{Bool, true, false, false≢true, ◌&&◌}
+use Prim.Native.Nat.{ℕ, suc, ◌+◌, ◌-◌, ◌<◌, ◌≤◌}
+use mathlib.Core.Bool.{true, false, false≢true, ◌&&◌}
 use mathlib.Core.List.{List, [], ◌∷◌, ◌++◌}
 use native.Mathlib.Omega.{arith}
-use lib.ListN.{length, get_or, drop, length-append}
+use lib.ListN.{length, length-append}
 use lib.Dec.{leb, eqb}
 use borrow.Author.Tests.{le-leb, lt-leb, eq-eqb, ne_eqb}
 use Rattle.event.specs.Bytes.{big_endian}
@@ -14,14 +14,12 @@ use Rattle.event.specs.Layout.{lay_event}
 use Rattle.event.specs.Manner.{Manner, spell_event}
 use Rattle.event.specs.Step.{end_of}
 use Rattle.event.proofs.BytesLaws.{length_big_endian}
-use Rattle.event.proofs.ChoiceLaws.{and_both}
 use Rattle.event_write.specs.Written.{Written}
 use Rattle.event_write.specs.Head.{head_bytes}
 use Rattle.event_write.proofs.WriteLaws.{then}
 use Rattle.midicsv.specs.Table.{EventName, RecordName, header, start_track, end_of_file, event}
 use Rattle.midicsv.specs.Record.{Values, Record}
 use Rattle.midicsv.specs.Result.{good, test}
-use Rattle.midicsv.specs.Names.{all_names}
 use Rattle.midicsv.specs.KindOf.{kind_named}
 use Rattle.smf.specs.Piece.{Header}
 use Rattle.midicsv.specs.Order.{first, between, inside, finished, after_event, take_event, step_on, step}
@@ -33,8 +31,7 @@ use Rattle.midicsv.proofs.RecordAcceptedLaws.{Given}
 use Rattle.midicsv_read.specs.RowEvent.{event_kind, kind_numbered, is_event, status_after}
 use Rattle.midicsv_read.specs.Progress.{events_bytes, front_bytes, bytes_of, Inside, InTrack, Follows}
 use Rattle.midicsv_read.specs.declared.Progress.{Progress}
-use Rattle.std.specs.Prelude.{Ok, Err, Result as CodeResult}
-use Rattle.event.specs.declared.refusal.Refusal.{Refusal}
+use Rattle.std.specs.Prelude.{Ok, Err}
 use Rattle.event.specs.declared.refusal.Refusal.TheVariants.{RecordOutOfOrder, StepTooGreat}
 use Rattle.midicsv_read.specs.declared.Phase.{Phase}
 use Rattle.event_write.proofs.PatchLaws.{patch}

@@ -23,9 +23,8 @@ use Rattle.midicsv.proofs.ResultLaws.{test_eq}
 use Rattle.midicsv_read.specs.Progress.{last_force, events_bytes, tracks_bytes, between_bytes, front_bytes, bytes_of, Between, At, Follows, Sized, header_step, start_step, end_step}
 use Rattle.midicsv_record.specs.declared.Row.{Row}
 use Rattle.midicsv_read.specs.declared.Progress.{Progress}
-use Rattle.std.specs.Prelude.{Ok, Err, Result as CodeResult}
-use Rattle.event.specs.declared.refusal.Refusal.{Refusal}
-use Rattle.event.specs.declared.refusal.Refusal.TheVariants.{RecordOutOfOrder, StepTooGreat}
+use Rattle.std.specs.Prelude.{Ok, Err}
+use Rattle.event.specs.declared.refusal.Refusal.TheVariants.{RecordOutOfOrder}
 use Rattle.midicsv_read.specs.declared.Phase.{Phase}
 use Rattle.midicsv_read.proofs.BytesSoFarLaws.{finished_same}
 

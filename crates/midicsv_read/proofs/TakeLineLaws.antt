@@ -29,8 +29,6 @@ use Rattle.midicsv_read.specs.declared.Progress.{Progress}
 use Rattle.std.specs.Prelude.{Ok, Err, Result as CodeResult}
 use Rattle.event.specs.Refusal.{number_of}
 use Rattle.event.specs.declared.refusal.Refusal.{Refusal}
-use Rattle.event.specs.declared.refusal.Refusal.TheVariants.{RecordOutOfOrder, StepTooGreat}
-use Rattle.midicsv_read.specs.declared.Phase.{Phase}
 
 pub near_wider : (n m : ℕ) (r : CodeResult Progress Refusal) → n ≤ m → Near n r → Near m r
 near_wider n m (Ok st) h k = omega arith

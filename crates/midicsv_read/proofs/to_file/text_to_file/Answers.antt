@@ -1,5 +1,5 @@
 use Rattle.midicsv_read.proofs.ToFileLaws.{wrong_manner, long_text_lem, refused_text, long_file, small_room, written_file, no_room}
-use mathlib.Core.Path.{sym, ◌∙◌}
+use mathlib.Core.Path.{◌∙◌}
 use Rattle.midicsv_read.specs.Progress.{passed_as}
 use Rattle.midicsv_read.proofs.to_file.text_to_file.Goals as goal
 
