@@ -35,6 +35,7 @@ fn pass(out: &mut [u8], text: &[u8], short: bool) -> Result<usize, Stopped>
     };
     let mut i = 0;
     let mut line = 1;
+    // a `for` would need an iterator of lines, whose items and state are these same places
     while i < text.len() {
         let cut = line_at(text, i);
         let end = cut.end;

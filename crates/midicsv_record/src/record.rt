@@ -11,6 +11,10 @@ use super::names::name_of;
 use super::{Name, Row};
 use midicsv_scan::field::field_at;
 
+// The greatest Track and Time.
+const MOST_TRACK: u32 = 65535;
+const MOST_TIME: u32 = 4294967295;
+
 // Whether the numbers go together: a Header of format 0 has one track.
 fn is_together(name: Name, columns: [u32; 5]) -> bool
     ensures { result ≡ together (name_at name) columns }
@@ -58,8 +62,8 @@ pub fn row_in_turn(line: &[u8]) -> Option<Row>
     ensures fact_2 { RowInside line.now result }
 {
     let first = field_at(line, 0)?;
-    let track = number_in(first, 0, 65535)?;
+    let track = number_in(first, 0, MOST_TRACK)?;
     let second = field_after(line, first.next())?;
-    let time = number_in(second, 0, 4294967295)?;
+    let time = number_in(second, 0, MOST_TIME)?;
     row_after(line, second.next(), track, time)
 }
