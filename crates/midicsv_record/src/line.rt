@@ -14,7 +14,7 @@ pub fn read_line(line: &[u8]) -> Result<Row, Refusal>
     ensures fact_1 { line_as line.now result ≡ read_line line.now }
     ensures fact_2 { Placed line.now result }
 {
-    // not `ok_or_else`: `refusal_of` asks that the line is refused
+    // `ok_or_else` was tried: what `refusal_of` asks is then a goal over raw values, which no answer closed
     match row_in_turn(line) {
         Some(row) => Ok(row),
         None => Err(refusal_of(line)),

@@ -13,6 +13,7 @@ use midicsv_scan::field::field_at;
 
 // The greatest Track and Time.
 const MOST_TRACK: u32 = 65535;
+
 const MOST_TIME: u32 = 4294967295;
 
 // Whether the numbers go together: a Header of format 0 has one track.

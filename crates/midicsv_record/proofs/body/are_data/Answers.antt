@@ -7,9 +7,6 @@ use Rattle.midicsv_record.specs.InTurn.{DataEnd}
 use Rattle.midicsv_record.proofs.BodyLaws.{data_on, data_off, data_missing, data_done}
 use Rattle.midicsv_record.proofs.body.are_data.Goals as goal
 
-pub loop-init : goal.loop-init
-loop-init c = let all : c.args.len - 0 ≡ c.args.len = omega arith in rw all (λ b d. d)
-
 pub returns-in_default : goal.returns-in_default
 unfolding field_as
 returns-in_default c =

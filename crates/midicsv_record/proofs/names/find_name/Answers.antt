@@ -1,9 +1,6 @@
-use mathlib.Core.Path.{refl, sym, ◌∙◌}
+use mathlib.Core.Path.{sym, ◌∙◌}
 use Rattle.midicsv_record.proofs.NameLaws.{found, not_here, not_found}
 use Rattle.midicsv_record.proofs.names.find_name.Goals as goal
-
-pub loop-name-init : goal.loop-name-init
-loop-name-init c = refl
 
 pub returns-then-same_name : goal.returns-then-same_name
 returns-then-same_name c =

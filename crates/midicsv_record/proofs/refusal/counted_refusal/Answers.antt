@@ -10,9 +10,6 @@ returns-then-count-lt3 c = line_few c.args.line.now c.args.count c.requires.fact
 pub returns-in_default : goal.returns-in_default
 returns-in_default c = third_there c.args.line.now c.args.count c.requires.fact_1 c.if-count-lt3.false c.in_default.ensures
 
-pub name_of-name-requires : goal.name_of-name-requires
-name_of-name-requires c = c.in-Some.ensures.within
-
 pub named_refusal-requires : goal.named_refusal-requires
 named_refusal-requires c =
     let counted = c.requires.fact_1 in

@@ -1,25 +1,14 @@
 use Prim.Native.Nat.{◌+◌, ◌<◌}
 use lib.ListN.{length}
 use Rattle.midicsv.specs.Table.{none, one_text, sized}
-use Rattle.midicsv_record.specs.Name.{name_at}
 use Rattle.midicsv_record.specs.Table.{columns_at, tail_at, tail_as}
 use Rattle.midicsv_record.specs.Column.{value_as}
 use Rattle.midicsv_record.specs.Line.{size_as}
-use Rattle.midicsv_record.proofs.FiveLaws.{few_columns}
 use Rattle.midicsv_record.proofs.InTurnLaws.{columns_counted}
 use Rattle.midicsv_record.proofs.FieldInLaws.{number_there}
 use Rattle.midicsv_record.proofs.SizeLaws.{size_none, size_text, size_missing, size_off, size_sized}
-use native.Mathlib.Omega.{arith}
 use mathlib.Core.Path.{◌≡◌, sym, ◌∙◌, ap}
 use Rattle.midicsv_record.proofs.refusal.size_of.Goals as goal
-
-pub overflow_add-k : goal.overflow_add-k
-unfolding tail_as size_as value_as
-overflow_add-k c = record { fits = omega (arith, (columns_counted c.columns.result.now (columns_at c.args.name) c.columns.ensures), few_columns (name_at c.args.name)) }
-
-pub overflow_add-k-in-OneText : goal.overflow_add-k-in-OneText
-unfolding tail_as size_as value_as
-overflow_add-k-in-OneText c = record { fits = omega (arith, (columns_counted c.columns.result.now (columns_at c.args.name) c.columns.ensures), few_columns (name_at c.args.name)) }
 
 pub returns-then-count-k : goal.returns-then-count-k
 unfolding tail_as size_as value_as
@@ -27,14 +16,6 @@ returns-then-count-k c =
     let a = c.args in
     let e : tail_at a.name ≡ sized = sym c.tail_kind.ensures ∙ ap tail_as c.in-Sized.is in
     size_missing a.line.now a.count a.name c.requires e (rw (columns_counted c.columns.result.now (columns_at c.args.name) c.columns.ensures) at c.if-count-k.true)
-
-pub overflow_add-wanted : goal.overflow_add-wanted
-unfolding tail_as size_as value_as
-overflow_add-wanted c = record { fits = omega (arith, (columns_counted c.columns.result.now (columns_at c.args.name) c.columns.ensures), few_columns (name_at c.args.name)) }
-
-pub overflow_add-wanted-in-Sized : goal.overflow_add-wanted-in-Sized
-unfolding tail_as size_as value_as
-overflow_add-wanted-in-Sized c = record { fits = omega (arith, (columns_counted c.columns.result.now (columns_at c.args.name) c.columns.ensures), few_columns (name_at c.args.name)) }
 
 pub returns-in-NoTail : goal.returns-in-NoTail
 unfolding tail_as size_as value_as

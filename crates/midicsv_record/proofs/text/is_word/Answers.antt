@@ -5,9 +5,6 @@ use Rattle.midicsv_record.proofs.text.is_word.Goals.{in-Nothing, in-Byte+else-wo
 pub loop-i-init : goal.loop-i-init
 loop-i-init c = agrees_first _ _ _
 
-pub text_step-requires : goal.text_step-requires
-text_step-requires c = c.loop-i.invariant.small
-
 pub returns-then-word-k : goal.returns-then-word-k
 returns-then-word-k c = let a = c.args in let l = c.loop-i in word_short a.line.now a.word.now a.start l.i l.k l.passed l.invariant c.loop-i-test.true c.text_step.result c.text_step.ensures.fact_1 _ _ c.in-Byte.is c.if-word-k.true
 
