@@ -10,19 +10,10 @@ use native.Mathlib.Omega.{arith}
 use mathlib.Core.Path.{sym, ◌∙◌, ap}
 use Rattle.midicsv_read.proofs.order.put_event.Goals as goal
 
-pub overflow_sub-at : goal.overflow_sub-at
-overflow_sub-at c = omega (arith, c.requires.fact_1.size c.requires.fact_4.phase, c.put_row-at.ensures.place)
-
-pub overflow_sub-at-then-is_end : goal.overflow_sub-at-then-is_end
-overflow_sub-at-then-is_end c = omega (arith, c.requires.fact_1.size c.requires.fact_4.phase, c.put_row-at.ensures.place)
-
 pub overflow_cast-at : goal.overflow_cast-at
 overflow_cast-at c = let a = c.args in
     let n = row_length (manner_of a.short) a.st.force a.delta.0 a.line.now a.row c.requires.fact_2.start c.requires.fact_2.len in
     record { fits = omega (arith, c.put_row-at.ensures.place, n, c.requires.fact_1.at, c.requires.fact_2.short) }
-
-pub put_four-requires : goal.put_four-requires
-put_four-requires c = omega (arith, c.requires.fact_1.size c.requires.fact_4.phase, c.requires.fact_1.at)
 
 pub returns-then-is_end : goal.returns-then-is_end
 returns-then-is_end c = let a = c.args in

@@ -11,15 +11,6 @@ use Rattle.midicsv_read.proofs.to_file.pass.Goals as goal
 pub loop-i-init : goal.loop-i-init
 loop-i-init c = (refl, going_first _ _ _)
 
-pub slice_bounds-take_line-count : goal.slice_bounds-take_line-count
-slice_bounds-take_line-count c = omega (arith, c.line_at-cut.ensures.low)
-
-pub slice_bounds-take_line-start : goal.slice_bounds-take_line-start
-slice_bounds-take_line-start c = c.line_at-cut.ensures.low
-
-pub slice_bounds-take_line-end : goal.slice_bounds-take_line-end
-slice_bounds-take_line-end c = c.line_at-cut.ensures.high
-
 pub take_line-requires : goal.take_line-requires
 take_line-requires c = let a = c.args in
     let l = c.loop-i in
@@ -32,12 +23,6 @@ unfolding passed_as
 returns-in-Err c = let a = c.args in
     let l = c.loop-i in
     let h = stopped (manner_of a.short) _ _ _ _ _ (going_bad (manner_of a.short) _ _ _ _ _ _ l.invariant.1 _ _ c.line_at-cut.ensures c.take_line.new.out c.take_line.result c.take_line.ensures.fact_1 _ c.in-Err.is) in record { fact_1 = h.0; fact_2 = h.1 }
-
-pub overflow_add-line : goal.overflow_add-line
-overflow_add-line c = let g = c.loop-i.invariant.1 in omega (arith, g.line, g.within)
-
-pub loop-i-smaller : goal.loop-i-smaller
-loop-i-smaller c = omega (arith, c.line_at-cut.ensures.more, c.line_at-cut.ensures.most)
 
 pub loop-i-preserved : goal.loop-i-preserved
 loop-i-preserved c = let a = c.args in

@@ -1,19 +1,10 @@
 use Prim.Native.Nat.{suc, ◌+◌, ◌-◌}
 use lib.ListN.{drop}
-use Rattle.midicsv_read.proofs.DataLaws.{data_count, data_first, data_on, data_end}
+use Rattle.midicsv_read.proofs.DataLaws.{data_count, data_on, data_end}
 use native.Mathlib.Omega.{arith}
-use mathlib.Core.Path.{◌≡◌, refl}
+use mathlib.Core.Path.{◌≡◌}
 use borrow.Author.Rules.{rules}
 use Rattle.midicsv_read.proofs.write_row.put_data.Goals as goal
-
-pub loop-init : goal.loop-init
-loop-init c =
-    let a = c.args in
-    let all : a.len - 0 ≡ a.len = omega arith in
-    rw all (refl, data_first a.line.now a.out.now a.at a.start a.len c.requires.fact_2)
-
-pub data_at-step-requires : goal.data_at-step-requires
-data_at-step-requires c = c.loop.invariant.1.inside
 
 pub put_byte-next-requires : goal.put_byte-next-requires
 put_byte-next-requires c = let a = c.args in let l = c.loop in

@@ -15,9 +15,6 @@ pub loop-c-init : goal.loop-c-init
 unfolding seen_as Small
 loop-c-init c = let first : c.args.start + 0 ≡ c.args.start = omega arith in rw first (refl, tt, all_remains _ _ _)
 
-pub text_step-requires : goal.text_step-requires
-text_step-requires c = c.loop-c.invariant.1
-
 pub put_byte-next-requires : goal.put_byte-next-requires
 put_byte-next-requires c = let s = c.args.line.now in omega (arith, c.loop-c.invariant.2.place, unquoted_most s c.args.start plain, c.requires.fact_1, c.requires.fact_2, c.requires.fact_3)
 
