@@ -1,6 +1,6 @@
 -- The bytes of Data, field after field.
 use mathlib.Core.Path.{◌≡◌, refl, sym, ap, ◌∙◌}
-use Prim.Native.Nat.{ℕ, zero, suc, ◌+◌, ◌-◌, ◌<◌, ◌≤◌}
+use Prim.Native.Nat.{ℕ, zero, suc, ◌+◌, ◌≤◌, ◌%◌}
 use mathlib.Core.List.{List, [], ◌∷◌, ◌++◌}
 use native.Mathlib.Omega.{arith}
 use lib.ListN.{length, drop}
@@ -13,6 +13,10 @@ use Rattle.midicsv.specs.ReadField.{read_field}
 use Rattle.midicsv_record.specs.Row.{byte_in, after_field, data_from}
 use Rattle.midicsv_record.proofs.BodyLaws.{after_place}
 use Rattle.midicsv_read.specs.Data.{DataIs}
+use Rattle.std.specs.Prelude.{Some}
+use Rattle.midicsv_scan.specs.FieldAt.{field_as, next_of}
+use Rattle.midicsv_scan.specs.declared.FieldAt.{FieldAt}
+use Rattle.midicsv_scan.specs.declared.FieldAt.TheVariants.{Number, Minus, Name, Quoted}
 use Rattle.midicsv_read.specs.declared.DataStep.{DataStep}
 
 -- ---- one field
@@ -21,6 +25,24 @@ use Rattle.midicsv_read.specs.declared.DataStep.{DataStep}
 pub data_found : (l : List ℕ) (at p : ℕ) (f : Field) (r : DataStep) → ok f (drop p l) ≡ read_field (drop at l) → r.byte ≡ byte_in (ok f (drop p l))
     → drop r.next l ≡ drop (p + 1) l → r.next ≤ length l → DataIs l at r
 data_found l at p f r e b n h = record { byte = b ∙ ap byte_in e; rest = n ∙ sym (after_place l f p) ∙ ap after_field e; inside = h }
+
+-- a number
+pub number_found : (l : List ℕ) (at : ℕ) (f : FieldAt) (r : DataStep) (v q : ℕ) → f ≡ Number v q → field_as l (Some f) ≡ read_field (drop at l) → r.byte ≡ v % 256
+    → drop r.next l ≡ drop (next_of f + 1) l → r.next ≤ length l → DataIs l at r
+unfolding field_as byte_in
+number_found l at (Number w p) r v q k e b n h = let same : w ≡ v = cc in data_found l at p _ r e (rw same b) n h
+number_found l at (Minus w p) r v q k e b n h = absurd (cc)
+number_found l at (Name s d p) r v q k e b n h = absurd (cc)
+number_found l at (Quoted s p) r v q k e b n h = absurd (cc)
+
+-- one that is no number
+pub other_found : (l : List ℕ) (at : ℕ) (f : FieldAt) (r : DataStep) → ((v q : ℕ) → f ≡ Number v q → ⊥) → field_as l (Some f) ≡ read_field (drop at l) → r.byte ≡ 0
+    → drop r.next l ≡ drop (next_of f + 1) l → r.next ≤ length l → DataIs l at r
+unfolding field_as byte_in
+other_found l at (Number v q) r k e b n h = absurd (k v q refl)
+other_found l at (Minus v q) r k e b n h = data_found l at q _ r e b n h
+other_found l at (Name s d q) r k e b n h = data_found l at q _ r e b n h
+other_found l at (Quoted s q) r k e b n h = data_found l at q _ r e b n h
 
 -- none
 pub data_bad : (l : List ℕ) (at : ℕ) → refused 22 0 ≡ read_field (drop at l) → DataIs l at (record { byte = 0; next = length l })
@@ -34,15 +56,13 @@ unfolding data_from
 data_count zero l = refl
 data_count (suc n) l = ap suc (data_count n (after_field (read_field l)))
 
-data_none : (n : ℕ) (l : List ℕ) → n ≤ 0 → data_from n l ≡ []
+data_none : (l : List ℕ) → data_from 0 l ≡ []
 unfolding data_from
-data_none zero l h = refl
-data_none (suc n) l h = absurd (omega arith)
+data_none l = refl
 
-data_cons : (n : ℕ) (l : List ℕ) → 0 < n → data_from n l ≡ (byte_in (read_field l) ∷ []) ++ data_from (n - 1) (after_field (read_field l))
+data_cons : (n : ℕ) (l : List ℕ) → data_from (suc n) l ≡ (byte_in (read_field l) ∷ []) ++ data_from n (after_field (read_field l))
 unfolding data_from
-data_cons zero l h = absurd (omega arith)
-data_cons (suc n) l h = let e : suc n - 1 ≡ n = omega arith in rw e
+data_cons n l = refl
 
 -- ---- the loop: left fields from the place on are still to be written
 
@@ -53,12 +73,12 @@ pub record DataLeft (l old : List ℕ) (at : ℕ) (whole new : List ℕ) (next p
 pub data_first : (l old : List ℕ) (at start len : ℕ) → start ≤ length l → DataLeft l old at (data_from len (drop start l)) old at start len
 data_first l old at start len h = record { inside = h; remains = all_remains old at (data_from len (drop start l)) }
 
-pub data_on : {old whole mid new : List ℕ} {at m next : ℕ} (l : List ℕ) (place left : ℕ) (s : DataStep) → DataLeft l old at whole mid m place left → 0 < left
-    → DataIs l place s → Written mid m (s.byte ∷ []) new next → DataLeft l old at whole new next s.next (left - 1)
-data_on l place left s d h i w = record {
+pub data_on : {old whole mid new : List ℕ} {at m next : ℕ} (l : List ℕ) (place left : ℕ) (s : DataStep) → DataLeft l old at whole mid m place (suc left)
+    → DataIs l place s → Written mid m (s.byte ∷ []) new next → DataLeft l old at whole new next s.next left
+data_on l place left s d i w = record {
   inside = i.inside;
-  remains = go_on_lem (data_from left (drop place l)) (s.byte ∷ []) _ d.remains (rw (i.byte, i.rest) (data_cons left (drop place l) h)) w;
+  remains = go_on_lem (data_from (suc left) (drop place l)) (s.byte ∷ []) _ d.remains (rw (i.byte, i.rest) (data_cons left (drop place l))) w;
 }
 
-pub data_end : {old whole new : List ℕ} {at next : ℕ} (l : List ℕ) (place left : ℕ) → DataLeft l old at whole new next place left → left ≤ 0 → Written old at whole new next
-data_end l place left d h = done (data_from left (drop place l)) d.remains (data_none left (drop place l) h)
+pub data_end : {old whole new : List ℕ} {at next : ℕ} (l : List ℕ) (place : ℕ) → DataLeft l old at whole new next place 0 → Written old at whole new next
+data_end l place d = done (data_from 0 (drop place l)) d.remains (data_none (drop place l))

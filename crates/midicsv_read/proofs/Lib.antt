@@ -1,6 +1,6 @@
+pub mod PhaseLaws
 pub mod QuotedLaws
 pub mod DataLaws
-pub mod NumberedLaws
 pub mod RowEventLaws
 pub mod BytesSoFarLaws
 pub mod TakeLaws

@@ -1,12 +1,12 @@
 -- The loop over the lines of a text.
 use mathlib.Core.Path.{◌≡◌, refl, sym, ap, subst, ◌∙◌}
 use Prim.Native.Nat.{ℕ, suc, ◌+◌, ◌-◌, ◌*◌, ◌≤◌}
-use mathlib.Core.List.{List}
+use mathlib.Core.List.{List, []}
 use native.Mathlib.Omega.{arith}
 use native.Mathlib.Numerals.{add-one}
 use lib.ListN.{length, take, drop, drop_of_length-le}
 use Rattle.event.specs.Manner.{Manner}
-use Rattle.event.specs.Outcome.{Outcome, refused}
+use Rattle.event.specs.Outcome.{Outcome, ok, refused}
 use Rattle.event_write.proofs.WriteLaws.{nothing}
 use Rattle.smf.specs.Piece.{Piece}
 use Rattle.midicsv.specs.Result.{bad}
@@ -14,11 +14,12 @@ use Rattle.midicsv.specs.Lines.{lines_of}
 use Rattle.midicsv.specs.Order.{State, first, between, inside, finished}
 use Rattle.midicsv.specs.PieceOfText.{tell_line, step_told, advance, ended, run_lines, piece_told, piece_of_text}
 use Rattle.midicsv_scan.specs.Cut.{CutAt}
-use Rattle.midicsv_read.specs.Progress.{bytes_of, At, Answers, Follows, Near, line_step, passed_as, Leaves}
+use Rattle.midicsv_read.specs.Progress.{bytes_of, At, Answers, Follows, Near, line_step, length_of, Leaves}
 use Rattle.midicsv_read.specs.declared.Progress.{Progress}
-use Rattle.midicsv_read.specs.declared.Step.{Step}
-use Rattle.midicsv_read.specs.declared.Step.TheVariants.{Moved, Bad}
-use Rattle.midicsv_read.specs.declared.Passed.TheVariants.{Whole, Stopped}
+use Rattle.std.specs.Prelude.{Ok, Err, Result as CodeResult}
+use Rattle.event.specs.declared.refusal.Refusal.{Refusal}
+use Rattle.midicsv_read.specs.declared.Phase.{Phase}
+use Rattle.event.specs.Refusal.{number_of}
 use Rattle.midicsv_scan.proofs.CutLaws.{cut_size}
 
 -- the lines from the place i, line n, on decide what the whole text decides; a line of k bytes adds at most 15 + k
@@ -31,7 +32,7 @@ pub record Going (m : Manner) (text old : List ℕ) (st : Progress) (i n : ℕ) 
   pub small : st.at ≤ 16 * i
 
 pub going_first : (m : Manner) (text old : List ℕ)
-    → Going m text old (record { phase = 0; count = 0; tracks = 0; time = record { 0 = 0 }; force = 0; size = 0; at = 0 }) 0 1 old
+    → Going m text old (record { phase = Phase.BeforeHeader; count = 0; tracks = 0; time = record { 0 = 0 }; force = 0; size = 0; at = 0 }) 0 1 old
 unfolding piece_of_text piece_told bytes_of
 going_first m text old =
     record {
@@ -53,13 +54,13 @@ turn : (text : List ℕ) (s : State) (i n end next : ℕ) → CutAt text i end n
 unfolding run_lines
 turn text s i n end next c = ap (λ z. run_lines tell_line z s n) c.lines
 
-module _ (m : Manner) (text old : List ℕ) (st : Progress) (i n : ℕ) (out : List ℕ) (g : Going m text old st i n out) (end next : ℕ) (c : CutAt text i end next) (new : List ℕ) (r : Step) (f : Follows m st out (line_step (line_in text i end)) r new) where
-  pub going_on : (t : Progress) → r ≡ Moved t → Near (st.at + 15 + length (line_in text i end)) r → Going m text old t next (n + 1) new
+module _ (m : Manner) (text old : List ℕ) (st : Progress) (i n : ℕ) (out : List ℕ) (g : Going m text old st i n out) (end next : ℕ) (c : CutAt text i end next) (new : List ℕ) (r : CodeResult Progress Refusal) (f : Follows m st out (line_step (line_in text i end)) r new) where
+  pub going_on : (t : Progress) → r ≡ Ok t → Near (st.at + 15 + length (line_in text i end)) r → Going m text old t next (n + 1) new
   unfolding advance
   going_on t e b =
-      let a : Answers m (step_told g.state (tell_line (line_in text i end))) old (Moved t) new =
+      let a : Answers m (step_told g.state (tell_line (line_in text i end))) old (Ok t) new =
       subst (λ z. Answers m (step_told g.state (tell_line (line_in text i end))) old z new) e (f g.state old g.held) in
-      let b1 : Near (st.at + 15 + length (line_in text i end)) (Moved t) = subst (Near (st.at + 15 + length (line_in text i end))) e b in
+      let b1 : Near (st.at + 15 + length (line_in text i end)) (Ok t) = subst (Near (st.at + 15 + length (line_in text i end))) e b in
       record {
         state = a.0;
         held = a.2;
@@ -71,10 +72,10 @@ module _ (m : Manner) (text old : List ℕ) (st : Progress) (i n : ℕ) (out : L
         small = omega (arith, g.small, b1, c.low, c.past, c.more, cut_size text i end next c);
       }
 
-  pub going_bad : (k : ℕ) → r ≡ Bad k → piece_of_text text ≡ refused k n
+  pub going_bad : (k : Refusal) → r ≡ Err k → piece_of_text text ≡ refused (number_of k) n
   unfolding advance
   going_bad k e =
-      let a : step_told g.state (tell_line (line_in text i end)) ≡ bad k =
+      let a : step_told g.state (tell_line (line_in text i end)) ≡ bad (number_of k) =
       subst (λ z. Answers m (step_told g.state (tell_line (line_in text i end))) old z new) e (f g.state old g.held) in
       sym g.rest ∙ turn text g.state i n end next c ∙ ap (λ z. advance z n (λ t. run_lines tell_line (lines_of (drop next text)) t (suc n))) a
 
@@ -84,31 +85,31 @@ none_left : (text : List ℕ) (s : State) (i n : ℕ) → length text ≤ i → 
 unfolding run_lines lines_of
 none_left text s i n h = rw (drop_of_length-le text h)
 
-done_at : (m : Manner) (s : State) (old : List ℕ) (st : Progress) (out : List ℕ) (n : ℕ) → At m s old st out → st.phase ≡ 3
-    → (Whole st.at ≡ passed_as m (ended s n)) × Leaves m (ended s n) old out
-unfolding ended passed_as Leaves bytes_of
-done_at m first old st out n a e = absurd (omega (arith, a.numbers))
-done_at m (between h ts) old st out n a e = absurd (omega (arith, a.numbers.phase))
-done_at m (inside h ts es t) old st out n a e = absurd (omega (arith, a.numbers.phase))
-done_at m (finished p) old st out n a e = (ap Whole (omega (arith, a.written.place)), a.written.contents)
+done_at : (m : Manner) (s : State) (old : List ℕ) (st : Progress) (out : List ℕ) (n : ℕ) → At m s old st out → st.phase ≡ Phase.AfterEnd
+    → (ok st.at [] ≡ length_of m (ended s n)) × Leaves m (ended s n) old out
+unfolding ended length_of Leaves bytes_of
+done_at m first old st out n a e = absurd (cc (a.numbers))
+done_at m (between h ts) old st out n a e = absurd (cc (a.numbers.phase))
+done_at m (inside h ts es t) old st out n a e = absurd (cc (a.numbers.phase))
+done_at m (finished p) old st out n a e = (ap (λ k. ok k []) (omega (arith, a.written.place)), a.written.contents)
 
-short_at : (m : Manner) (s : State) (old : List ℕ) (st : Progress) (out : List ℕ) (n : ℕ) → At m s old st out → (st.phase ≡ 3 → ⊥) → ended s n ≡ refused 28 n
+short_at : (m : Manner) (s : State) (old : List ℕ) (st : Progress) (out : List ℕ) (n : ℕ) → At m s old st out → (st.phase ≡ Phase.AfterEnd → ⊥) → ended s n ≡ refused 28 n
 unfolding ended
 short_at m first old st out n a e = refl
 short_at m (between h ts) old st out n a e = refl
 short_at m (inside h ts es t) old st out n a e = refl
 short_at m (finished p) old st out n a e = absurd (e a.numbers)
 
-pub stopped : (m : Manner) (x : Outcome Piece) (k n : ℕ) (old new : List ℕ) → x ≡ refused k n → (Stopped k n ≡ passed_as m x) × Leaves m x old new
-unfolding passed_as Leaves
+pub stopped : (m : Manner) (x : Outcome Piece) (k n : ℕ) (old new : List ℕ) → x ≡ refused k n → (refused k n ≡ length_of m x) × Leaves m x old new
+unfolding length_of Leaves
 stopped m x k n old new e = rw e (refl, tt)
 
 module _ (m : Manner) (text old : List ℕ) (st : Progress) (i n : ℕ) (out : List ℕ) (g : Going m text old st i n out) (h : length text ≤ i) where
   all_read : ended g.state n ≡ piece_of_text text
   all_read = sym (none_left text g.state i n h) ∙ g.rest
 
-  pub going_done : st.phase ≡ 3 → (Whole st.at ≡ passed_as m (piece_of_text text)) × Leaves m (piece_of_text text) old out
-  going_done e = subst (λ z. (Whole st.at ≡ passed_as m z) × Leaves m z old out) all_read (done_at m g.state old st out n g.held e)
+  pub going_done : st.phase ≡ Phase.AfterEnd → (ok st.at [] ≡ length_of m (piece_of_text text)) × Leaves m (piece_of_text text) old out
+  going_done e = subst (λ z. (ok st.at [] ≡ length_of m z) × Leaves m z old out) all_read (done_at m g.state old st out n g.held e)
 
-  pub going_short : (st.phase ≡ 3 → ⊥) → (Stopped 28 n ≡ passed_as m (piece_of_text text)) × Leaves m (piece_of_text text) old out
+  pub going_short : (st.phase ≡ Phase.AfterEnd → ⊥) → (refused 28 n ≡ length_of m (piece_of_text text)) × Leaves m (piece_of_text text) old out
   going_short e = stopped m (piece_of_text text) 28 n old out (sym all_read ∙ short_at m g.state old st out n g.held e)

@@ -4,7 +4,8 @@ use Prim.Native.Nat.{ℕ, ◌+◌, ◌-◌, ◌%◌, ◌<◌, ◌≤◌}
 use mathlib.Core.List.{List, [], ◌∷◌, ◌++◌}
 use mathlib.Core.Logic.{inl, inr}
 use native.Mathlib.Omega.{arith}
-use lib.ListN.{length, get_or, drop, length-append}
+use lib.ListN.{length, get_or, take, drop, length-append}
+use Rattle.std.proofs.lemmas.List.{get_or-take}
 use Rattle.event.specs.Event.{Event, Fits, is_end}
 use Rattle.event.specs.Frame.{frame, after}
 use Rattle.event.specs.Layout.{lay_event}
@@ -15,18 +16,54 @@ use Rattle.event.specs.declared.EventKind.TheVariants.{SystemExclusive, SystemEx
 use Rattle.event_write.specs.Head.{head_bytes, data_of}
 use Rattle.event_write.proofs.HeadLaws.{event_bytes}
 use Rattle.event_write.proofs.DataLaws.{head_length}
-use Rattle.midicsv.specs.Table.{EventName, note_off_name, note_on_name, poly_aftertouch_name, control_change_name, program_change_name, channel_aftertouch_name, pitch_bend_name, system_exclusive_name, system_exclusive_packet_name, sequence_number_name, words, channel_prefix_name, midi_port_name, end_track_name, set_tempo_name, smpte_offset_name, time_signature_name, key_signature_name, sequencer_specific_name, unknown_meta_name, event, spelled, Column, range, key, mode, free_type, division, Tail, none, one_text, sized, event_shape, shape}
+use Rattle.midicsv.specs.Table.{EventName, note_off_name, note_on_name, poly_aftertouch_name, control_change_name, program_change_name, channel_aftertouch_name, pitch_bend_name, system_exclusive_name, system_exclusive_packet_name, sequence_number_name, words, channel_prefix_name, midi_port_name, end_track_name, set_tempo_name, smpte_offset_name, time_signature_name, key_signature_name, sequencer_specific_name, unknown_meta_name, RecordName, header, start_track, end_of_file, event, spelled, Column, range, key, mode, free_type, division, Tail, none, one_text, sized, event_shape, shape}
 use Rattle.midicsv.specs.Record.{Values}
 use Rattle.midicsv.specs.ReadField.{plain}
 use Rattle.midicsv.specs.KindOf.{kind_named}
 use Rattle.midicsv.proofs.RowLaws.{InColumn, InColumns, InTail}
 use Rattle.midicsv.proofs.KindAcceptedLaws.{nth_in, key_same, kind_fits}
 use Rattle.midicsv.proofs.LayableLaws.{Layable, one_permitted}
-use Rattle.midicsv_record.specs.Row.{name_at, body_in}
-use Rattle.midicsv_read.specs.RowEvent.{event_kind, row_kind, row_body, row_bytes, status_after}
+use Rattle.midicsv_record.specs.Name.{name_at}
+use Rattle.midicsv_record.specs.Row.{body_in}
+use Rattle.midicsv_read.specs.RowEvent.{event_kind, kind_numbered, row_kind, row_body, row_bytes, status_after}
 use Rattle.midicsv_record.specs.declared.Row.{Row}
 use Rattle.midicsv_read.proofs.QuotedLaws.{unquoted_most}
 use Rattle.midicsv_read.proofs.DataLaws.{data_count}
+
+-- ---- a number past the columns is not looked at
+
+nth_cut : (n i : ℕ) (ns : List ℕ) → i < n → get_or (take n ns) i 0 ≡ get_or ns i 0
+nth_cut n i ns h = get_or-take n ns i 0 h
+
+event_cut : (g : EventName) (ns : List ℕ) (start len : ℕ) → event_kind g (take (length (event_shape g).columns) ns) start len ≡ event_kind g ns start len
+unfolding event_shape event_kind
+event_cut note_off_name ns start len = rw (nth_cut 3 0 ns (omega arith), nth_cut 3 1 ns (omega arith), nth_cut 3 2 ns (omega arith)) refl
+event_cut note_on_name ns start len = rw (nth_cut 3 0 ns (omega arith), nth_cut 3 1 ns (omega arith), nth_cut 3 2 ns (omega arith)) refl
+event_cut poly_aftertouch_name ns start len = rw (nth_cut 3 0 ns (omega arith), nth_cut 3 1 ns (omega arith), nth_cut 3 2 ns (omega arith)) refl
+event_cut control_change_name ns start len = rw (nth_cut 3 0 ns (omega arith), nth_cut 3 1 ns (omega arith), nth_cut 3 2 ns (omega arith)) refl
+event_cut program_change_name ns start len = rw (nth_cut 2 0 ns (omega arith), nth_cut 2 1 ns (omega arith)) refl
+event_cut channel_aftertouch_name ns start len = rw (nth_cut 2 0 ns (omega arith), nth_cut 2 1 ns (omega arith)) refl
+event_cut pitch_bend_name ns start len = rw (nth_cut 2 0 ns (omega arith), nth_cut 2 1 ns (omega arith)) refl
+event_cut system_exclusive_name ns start len = refl
+event_cut system_exclusive_packet_name ns start len = refl
+event_cut sequence_number_name ns start len = rw (nth_cut 1 0 ns (omega arith)) refl
+event_cut (words t) ns start len = refl
+event_cut channel_prefix_name ns start len = rw (nth_cut 1 0 ns (omega arith)) refl
+event_cut midi_port_name ns start len = rw (nth_cut 1 0 ns (omega arith)) refl
+event_cut end_track_name ns start len = refl
+event_cut set_tempo_name ns start len = rw (nth_cut 1 0 ns (omega arith)) refl
+event_cut smpte_offset_name ns start len = rw (nth_cut 5 0 ns (omega arith), nth_cut 5 1 ns (omega arith), nth_cut 5 2 ns (omega arith), nth_cut 5 3 ns (omega arith), nth_cut 5 4 ns (omega arith)) refl
+event_cut time_signature_name ns start len = rw (nth_cut 4 0 ns (omega arith), nth_cut 4 1 ns (omega arith), nth_cut 4 2 ns (omega arith), nth_cut 4 3 ns (omega arith)) refl
+event_cut key_signature_name ns start len = rw (nth_cut 2 0 ns (omega arith), nth_cut 2 1 ns (omega arith)) refl
+event_cut sequencer_specific_name ns start len = refl
+event_cut unknown_meta_name ns start len = rw (nth_cut 1 0 ns (omega arith)) refl
+
+pub kind_cut : (n : RecordName) (ns : List ℕ) (start len : ℕ) → kind_numbered n (take (length (shape n).columns) ns) start len ≡ kind_numbered n ns start len
+unfolding shape kind_numbered
+kind_cut header ns start len = refl
+kind_cut start_track ns start len = refl
+kind_cut end_of_file ns start len = refl
+kind_cut (event g) ns start len = event_cut g ns start len
 
 -- ---- of a number in its range nothing is cut
 

@@ -1,10 +1,10 @@
 -- An event taken: one law for each exit of the code.
 use mathlib.Core.Path.{◌≡◌, refl, sym, ap, ap₂, subst, ◌∙◌}
-use Prim.Native.Nat.{ℕ, zero, suc, ◌+◌, ◌-◌, ◌<◌, ◌≤◌}
-use mathlib.Core.Bool.{Bool, true, false, false≢true, ◌&&◌}
+use Prim.Native.Nat.{ℕ, suc, ◌+◌, ◌-◌, ◌<◌, ◌≤◌}
+use mathlib.Core.Bool.{true, false, false≢true, ◌&&◌}
 use mathlib.Core.List.{List, [], ◌∷◌, ◌++◌}
 use native.Mathlib.Omega.{arith}
-use lib.ListN.{length, get_or, drop, length-append}
+use lib.ListN.{length, length-append}
 use lib.Dec.{leb, eqb}
 use borrow.Author.Tests.{le-leb, lt-leb, eq-eqb, ne_eqb}
 use Rattle.event.specs.Bytes.{big_endian}
@@ -14,14 +14,12 @@ use Rattle.event.specs.Layout.{lay_event}
 use Rattle.event.specs.Manner.{Manner, spell_event}
 use Rattle.event.specs.Step.{end_of}
 use Rattle.event.proofs.BytesLaws.{length_big_endian}
-use Rattle.event.proofs.ChoiceLaws.{and_both}
 use Rattle.event_write.specs.Written.{Written}
 use Rattle.event_write.specs.Head.{head_bytes}
 use Rattle.event_write.proofs.WriteLaws.{then}
 use Rattle.midicsv.specs.Table.{EventName, RecordName, header, start_track, end_of_file, event}
 use Rattle.midicsv.specs.Record.{Values, Record}
 use Rattle.midicsv.specs.Result.{good, test}
-use Rattle.midicsv.specs.Names.{all_names}
 use Rattle.midicsv.specs.KindOf.{kind_named}
 use Rattle.smf.specs.Piece.{Header}
 use Rattle.midicsv.specs.Order.{first, between, inside, finished, after_event, take_event, step_on, step}
@@ -30,39 +28,15 @@ use Rattle.midicsv.proofs.ResultLaws.{test_eq}
 use Rattle.midicsv.proofs.LayableLaws.{Layable}
 use Rattle.midicsv.proofs.KindAcceptedLaws.{kind_fits}
 use Rattle.midicsv.proofs.RecordAcceptedLaws.{Given}
-use Rattle.midicsv_record.specs.Row.{name_at}
-use Rattle.midicsv_read.specs.RowEvent.{event_kind, kind_numbered, status_after}
+use Rattle.midicsv_read.specs.RowEvent.{event_kind, kind_numbered, is_event, status_after}
 use Rattle.midicsv_read.specs.Progress.{events_bytes, front_bytes, bytes_of, Inside, InTrack, Follows}
 use Rattle.midicsv_read.specs.declared.Progress.{Progress}
-use Rattle.midicsv_read.specs.declared.Step.TheVariants.{Moved, Bad}
+use Rattle.std.specs.Prelude.{Ok, Err}
+use Rattle.event.specs.declared.refusal.Refusal.TheVariants.{RecordOutOfOrder, StepTooGreat}
+use Rattle.midicsv_read.specs.declared.Phase.{Phase}
 use Rattle.event_write.proofs.PatchLaws.{patch}
 use Rattle.midicsv_read.proofs.BytesSoFarLaws.{last_time_lem, last_force_lem, inside_more, between_more}
 use Rattle.midicsv_read.proofs.RowEventLaws.{row_event, status_row, end_row}
-
--- ---- the names from the fourth on are those of events
-
-unfoldable pub is_event : RecordName → Bool
-is_event header = false
-is_event start_track = false
-is_event end_of_file = false
-is_event (event g) = true
-
-unfoldable all_events : List RecordName → Bool
-all_events [] = true
-all_events (x ∷ xs) = is_event x && all_events xs
-
-nth_event : (xs : List RecordName) (i : ℕ) → all_events xs ≡ true → i < length xs → is_event (get_or xs i end_of_file) ≡ true
-unfolding all_events
-nth_event [] i e h = absurd (omega arith)
-nth_event (x ∷ xs) zero e h = (and_both (is_event x) (all_events xs) e).0
-nth_event (x ∷ xs) (suc i) e h = nth_event xs i (and_both (is_event x) (all_events xs) e).1 (omega arith)
-
-pub event_name : (n : ℕ) → 3 ≤ n → n ≤ 28 → is_event (name_at n) ≡ true
-unfolding is_event all_events
-event_name zero h k = absurd (omega arith)
-event_name (suc zero) h k = absurd (omega arith)
-event_name (suc (suc zero)) h k = absurd (omega arith)
-event_name (suc (suc (suc i))) h k = nth_event (drop 3 all_names) i refl (omega arith)
 
 module _ (m : Manner) (st : Progress) (out : List ℕ) (track time : ℕ) (v : Values) where
   abbrev said : RecordName → Record
@@ -73,7 +47,7 @@ module _ (m : Manner) (st : Progress) (out : List ℕ) (track time : ℕ) (v : V
 
   -- ---- refused
 
-  pub event_phase : (x : RecordName) (new : List ℕ) → is_event x ≡ true → (st.phase ≡ 2 → ⊥) → Follows m st out (λ s. step s (said x)) (Bad 26) new
+  pub event_phase : (x : RecordName) (new : List ℕ) → is_event x ≡ true → (st.phase ≡ Phase.InTrack → ⊥) → Follows m st out (λ s. step s (said x)) (Err RecordOutOfOrder) new
   unfolding is_event step step_on
   event_phase header new i q s old a = absurd (false≢true i)
   event_phase start_track new i q s old a = absurd (false≢true i)
@@ -83,7 +57,7 @@ module _ (m : Manner) (st : Progress) (out : List ℕ) (track time : ℕ) (v : V
   event_phase (event g) new i q (inside h ts es prev) old a = absurd (q a.numbers.phase)
   event_phase (event g) new i q (finished p) old a = refl
 
-  pub event_track : (x : RecordName) (new : List ℕ) → is_event x ≡ true → (track ≡ st.tracks + 1 → ⊥) → Follows m st out (λ s. step s (said x)) (Bad 26) new
+  pub event_track : (x : RecordName) (new : List ℕ) → is_event x ≡ true → (track ≡ st.tracks + 1 → ⊥) → Follows m st out (λ s. step s (said x)) (Err RecordOutOfOrder) new
   unfolding is_event step step_on take_event test
   event_track header new i n s old a = absurd (false≢true i)
   event_track start_track new i n s old a = absurd (false≢true i)
@@ -95,7 +69,7 @@ module _ (m : Manner) (st : Progress) (out : List ℕ) (track time : ℕ) (v : V
       rw (ne_eqb track (suc (length ts)) (λ e. n (omega (arith, k.tracks))))
   event_track (event g) new i n (finished p) old a = refl
 
-  pub event_falls : (x : RecordName) (new : List ℕ) → is_event x ≡ true → track ≡ st.tracks + 1 → time < st.time.0 → Follows m st out (λ s. step s (said x)) (Bad 26) new
+  pub event_falls : (x : RecordName) (new : List ℕ) → is_event x ≡ true → track ≡ st.tracks + 1 → time < st.time.0 → Follows m st out (λ s. step s (said x)) (Err RecordOutOfOrder) new
   unfolding is_event step step_on take_event test
   event_falls header new i t n s old a = absurd (false≢true i)
   event_falls start_track new i t n s old a = absurd (false≢true i)
@@ -111,18 +85,18 @@ module _ (m : Manner) (st : Progress) (out : List ℕ) (track time : ℕ) (v : V
       → (eqb track (suc (length ts)) && leb prev time) ≡ true
   passes h ts es prev k t n = ap₂ ◌&&◌ (eq-eqb track (suc (length ts)) (omega (arith, k.tracks))) (le-leb prev time (omega (arith, k.time)))
 
-  pub event_far : (x : RecordName) (new : List ℕ) (d : ℕ) → is_event x ≡ true → st.phase ≡ 2 → track ≡ st.tracks + 1 → st.time.0 ≤ time → d ≡ time - st.time.0 → 268435455 < d
-      → Follows m st out (λ s. step s (said x)) (Bad 27) new
+  pub event_far : (x : RecordName) (new : List ℕ) (d : ℕ) → is_event x ≡ true → st.phase ≡ Phase.InTrack → track ≡ st.tracks + 1 → st.time.0 ≤ time → d ≡ time - st.time.0 → 268435455 < d
+      → Follows m st out (λ s. step s (said x)) (Err StepTooGreat) new
   unfolding is_event step step_on take_event test
   event_far header new d i q t n e f s old a = absurd (false≢true i)
   event_far start_track new d i q t n e f s old a = absurd (false≢true i)
   event_far end_of_file new d i q t n e f s old a = absurd (false≢true i)
-  event_far (event g) new d i q t n e f first old a = absurd (omega (arith, a.numbers))
-  event_far (event g) new d i q t n e f (between h ts) old a = absurd (omega (arith, a.numbers.phase))
+  event_far (event g) new d i q t n e f first old a = absurd (cc (a.numbers))
+  event_far (event g) new d i q t n e f (between h ts) old a = absurd (cc (a.numbers.phase))
   event_far (event g) new d i q t n e f (inside h ts es prev) old a =
       let k : Inside m st h ts es prev = a.numbers in
       rw (passes h ts es prev k t n, lt-leb (time - prev) 268435455 (omega (arith, k.time)))
-  event_far (event g) new d i q t n e f (finished p) old a = absurd (omega (arith, a.numbers))
+  event_far (event g) new d i q t n e f (finished p) old a = absurd (cc (a.numbers))
 
   -- ---- taken
 
@@ -157,13 +131,13 @@ module _ (m : Manner) (st : Progress) (out : List ℕ) (track time : ℕ) (v : V
   pub event_moved : (x : RecordName) (new : List ℕ) (start n d at f : ℕ) → is_event x ≡ true → Given n (said x) → n ≤ text_limit → InTrack st track time d
       → Written out st.at (head_bytes m st.force d (kind_numbered x v.columns start (length v.body)) ++ v.body) new at
       → end_of (kind_numbered x v.columns start 0) ≡ false → f ≡ status_after (kind_numbered x v.columns start 0)
-      → Follows m st out (λ s. step s (said x)) (Moved (record { phase = 2; count = st.count; tracks = st.tracks; time = record { 0 = time }; force = f; size = st.size; at = at })) new
+      → Follows m st out (λ s. step s (said x)) (Ok (record { phase = st.phase; count = st.count; tracks = st.tracks; time = record { 0 = time }; force = f; size = st.size; at = at })) new
   unfolding is_event kind_numbered after_event
   event_moved header new start n d at f i gv short there b z w s old a = absurd (false≢true i)
   event_moved start_track new start n d at f i gv short there b z w s old a = absurd (false≢true i)
   event_moved end_of_file new start n d at f i gv short there b z w s old a = absurd (false≢true i)
-  event_moved (event g) new start n d at f i gv short there b z w first old a = absurd (omega (arith, a.numbers, there.phase))
-  event_moved (event g) new start n d at f i gv short there b z w (between h ts) old a = absurd (omega (arith, a.numbers.phase, there.phase))
+  event_moved (event g) new start n d at f i gv short there b z w first old a = absurd (cc (a.numbers, there.phase))
+  event_moved (event g) new start n d at f i gv short there b z w (between h ts) old a = absurd (cc (a.numbers.phase, there.phase))
   event_moved (event g) new start n d at f i gv short there b z w (inside h ts es prev) old a =
       let k : Inside m st h ts es prev = a.numbers in (
         inside h ts (es ++ (this g ∷ [])) time,
@@ -171,7 +145,7 @@ module _ (m : Manner) (st : Progress) (out : List ℕ) (track time : ℕ) (v : V
         record {
           numbers =
               record {
-                phase = refl;
+                phase = there.phase;
                 count = k.count;
                 tracks = k.tracks;
                 more = k.more;
@@ -185,7 +159,7 @@ module _ (m : Manner) (st : Progress) (out : List ℕ) (track time : ℕ) (v : V
           written = grown g h ts es prev d k there start n at old new gv short a.written b;
         },
       )
-  event_moved (event g) new start n d at f i gv short there b z w (finished p) old a = absurd (omega (arith, a.numbers, there.phase))
+  event_moved (event g) new start n d at f i gv short there b z w (finished p) old a = absurd (cc (a.numbers, there.phase))
 
   -- the length that the track has, over the zero that stood for it
   filled : (h : Header) (ts : List (List Event)) (es : List Event) (old mid new : List ℕ) (at next : ℕ) → st.size ≡ length (front_bytes m h ts)
@@ -202,13 +176,13 @@ module _ (m : Manner) (st : Progress) (out : List ℕ) (track time : ℕ) (v : V
   pub event_ended : (x : RecordName) (mid new : List ℕ) (start n d at next : ℕ) → is_event x ≡ true → Given n (said x) → n ≤ text_limit → InTrack st track time d
       → Written out st.at (head_bytes m st.force d (kind_numbered x v.columns start (length v.body)) ++ v.body) mid at
       → end_of (kind_numbered x v.columns start 0) ≡ true → Written mid st.size (big_endian 4 (at - st.size - 4)) new next
-      → Follows m st out (λ s. step s (said x)) (Moved (record { phase = 1; count = st.count; tracks = st.tracks + 1; time = record { 0 = 0 }; force = 0; size = 0; at = at })) new
+      → Follows m st out (λ s. step s (said x)) (Ok (record { phase = Phase.BetweenTracks; count = st.count; tracks = st.tracks + 1; time = record { 0 = 0 }; force = 0; size = 0; at = at })) new
   unfolding is_event kind_numbered after_event
   event_ended header mid new start n d at next i gv short there b z w s old a = absurd (false≢true i)
   event_ended start_track mid new start n d at next i gv short there b z w s old a = absurd (false≢true i)
   event_ended end_of_file mid new start n d at next i gv short there b z w s old a = absurd (false≢true i)
-  event_ended (event g) mid new start n d at next i gv short there b z w first old a = absurd (omega (arith, a.numbers, there.phase))
-  event_ended (event g) mid new start n d at next i gv short there b z w (between h ts) old a = absurd (omega (arith, a.numbers.phase, there.phase))
+  event_ended (event g) mid new start n d at next i gv short there b z w first old a = absurd (cc (a.numbers, there.phase))
+  event_ended (event g) mid new start n d at next i gv short there b z w (between h ts) old a = absurd (cc (a.numbers.phase, there.phase))
   event_ended (event g) mid new start n d at next i gv short there b z w (inside h ts es prev) old a =
       let k : Inside m st h ts es prev = a.numbers in
       let fs : List Event = es ++ (this g ∷ []) in
@@ -228,4 +202,4 @@ module _ (m : Manner) (st : Progress) (out : List ℕ) (track time : ℕ) (v : V
           written = filled h ts fs old mid new at next k.size (grown g h ts es prev d k there start n at old mid gv short a.written b) w;
         },
       )
-  event_ended (event g) mid new start n d at next i gv short there b z w (finished p) old a = absurd (omega (arith, a.numbers, there.phase))
+  event_ended (event g) mid new start n d at next i gv short there b z w (finished p) old a = absurd (cc (a.numbers, there.phase))

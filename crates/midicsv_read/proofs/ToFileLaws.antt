@@ -18,8 +18,7 @@ use Rattle.smf.specs.Writing.{write_answer, write_leaves}
 use Rattle.smf.specs.declared.Answer.{Answer}
 use Rattle.midicsv.specs.PieceOfText.{piece_of_text, text_limit}
 use Rattle.midicsv_read.specs.ToFile.{manner_numbered, piece_answer, piece_leaves, file_answer, file_leaves}
-use Rattle.midicsv_read.specs.Progress.{passed_as, Leaves}
-use Rattle.midicsv_read.specs.declared.Passed.TheVariants.{Whole, Stopped}
+use Rattle.midicsv_read.specs.Progress.{length_of, Leaves}
 
 -- the answer and what the room holds afterwards
 abbrev Right : List ℕ → ℕ → List ℕ → Answer → List ℕ → Type 0
@@ -35,13 +34,13 @@ long_text_lem text manner old h k = rw (le-leb manner 1 h, lt-leb (length text) 
 
 -- ---- what a pass has found
 
-stopped_is : (m : Manner) (x : Outcome Piece) (k n : ℕ) → Stopped k n ≡ passed_as m x → x ≡ refused k n
-unfolding passed_as
+stopped_is : (m : Manner) (x : Outcome Piece) (k n : ℕ) → refused k n ≡ length_of m x → x ≡ refused k n
+unfolding length_of
 stopped_is m (ok p r) k n e = let z : ◌≡◌ {A = ℕ} 0 1 = cc in absurd (omega arith)
 stopped_is m (refused j q) k n e = let a : k ≡ j = cc in let b : n ≡ q = cc in ap₂ refused (sym a) (sym b)
 
-whole_is : {X : Type 0} (m : Manner) (x : Outcome Piece) (n : ℕ) → Whole n ≡ passed_as m x → ((p : Piece) (r : List ℕ) → x ≡ ok p r → n ≡ length (file_of m p) → X) → X
-unfolding passed_as
+whole_is : {X : Type 0} (m : Manner) (x : Outcome Piece) (n : ℕ) → ok n [] ≡ length_of m x → ((p : Piece) (r : List ℕ) → x ≡ ok p r → n ≡ length (file_of m p) → X) → X
+unfolding length_of
 whole_is m (ok p r) n e f = f p r refl cc
 whole_is m (refused j q) n e f = let z : ◌≡◌ {A = ℕ} 0 1 = cc in absurd (omega arith)
 
@@ -54,13 +53,13 @@ module _ (text : List ℕ) (manner : ℕ) (old : List ℕ) (h : manner ≤ 1) (k
   unfolding file_answer file_leaves pick
   decides a new e f = rw (le-leb manner 1 h, le-leb (length text) text_limit k) (e, f)
 
-  pub refused_text : (n line : ℕ) → Stopped n line ≡ passed_as M (piece_of_text text) → Right text manner old (refusal n line) old
+  pub refused_text : (n line : ℕ) → refused n line ≡ length_of M (piece_of_text text) → Right text manner old (refusal n line) old
   unfolding piece_answer piece_leaves
   refused_text n line e =
       let x : piece_of_text text ≡ refused n line = stopped_is M (piece_of_text text) n line e in
       decides (refusal n line) old (rw x refl) (rw x refl)
 
-  module _ (n : ℕ) (e : Whole n ≡ passed_as M (piece_of_text text)) where
+  module _ (n : ℕ) (e : ok n [] ≡ length_of M (piece_of_text text)) where
     pub long_file : file_limit < n → Right text manner old (refusal 29 0) old
     unfolding piece_answer piece_leaves write_answer write_leaves pick
     long_file b =

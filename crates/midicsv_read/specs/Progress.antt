@@ -1,5 +1,7 @@
 -- Where a pass over the records stands, beside the state of the definition: its numbers, and the bytes that it has written.
-use Rattle.std.specs.Prelude.{◌≡◌, ℕ, ◌+◌, ◌-◌, ◌<◌, ◌≤◌, ◌^◌, List, [], ◌∷◌, ◌++◌, length}
+use Rattle.std.specs.Prelude.{◌≡◌, ℕ, ◌+◌, ◌-◌, ◌<◌, ◌≤◌, ◌^◌, List, [], ◌∷◌, ◌++◌, length, take, Ok, Err, Result as CodeResult}
+use Rattle.event.specs.Refusal.{number_of}
+use Rattle.event.specs.declared.refusal.Refusal.{Refusal}
 use Rattle.event.specs.Bytes.{big_endian}
 use Rattle.event.specs.Event.{Event}
 use Rattle.event.specs.Frame.{frame, after, no_status}
@@ -20,10 +22,8 @@ use Rattle.midicsv.specs.PieceOfText.{tell_line, step_told, text_limit}
 use Rattle.midicsv_record.specs.Row.{record_in}
 use Rattle.midicsv_record.specs.declared.Row.{Row}
 use Rattle.midicsv_read.specs.declared.Progress.{Progress}
-use Rattle.midicsv_read.specs.declared.Step.{Step}
-use Rattle.midicsv_read.specs.declared.Step.TheVariants.{Moved, Bad}
-use Rattle.midicsv_read.specs.declared.Passed.{Passed}
-use Rattle.midicsv_read.specs.declared.Passed.TheVariants.{Whole, Stopped}
+use Rattle.midicsv_read.specs.declared.Phase.{Phase}
+use Rattle.midicsv_read.specs.declared.Stopped.{Stopped}
 
 -- ---- the bytes of the records so far
 
@@ -59,7 +59,7 @@ bytes_of m (finished p) = file_of m p
 
 -- between tracks: those of ts are ended, and the Header counts no fewer
 pub record Between (st : Progress) (h : Header) (ts : List (List Event)) : Type 0 where
-  pub phase : st.phase ≡ 1
+  pub phase : st.phase ≡ Phase.BetweenTracks
   pub count : st.count ≡ h.count
   pub tracks : st.tracks ≡ length ts
   pub most : length ts ≤ h.count
@@ -67,7 +67,7 @@ pub record Between (st : Progress) (h : Header) (ts : List (List Event)) : Type 
 
 -- in a track, after its events es: their last Time, the status in force, the place of the length
 pub record Inside (m : Manner) (st : Progress) (h : Header) (ts : List (List Event)) (es : List Event) (prev : ℕ) : Type 0 where
-  pub phase : st.phase ≡ 2
+  pub phase : st.phase ≡ Phase.InTrack
   pub count : st.count ≡ h.count
   pub tracks : st.tracks ≡ length ts
   pub more : length ts < h.count
@@ -77,12 +77,12 @@ pub record Inside (m : Manner) (st : Progress) (h : Header) (ts : List (List Eve
   pub force : st.force ≡ last_force no_status es
   pub size : st.size ≡ length (front_bytes m h ts)
 
--- by the phase: 0 before the Header, 1 between tracks, 2 in a track, 3 after End_of_file
+-- by the phase
 abbrev pub Numbers : Manner → Progress → State → Type 0
-Numbers m st first = st.phase ≡ 0
+Numbers m st first = st.phase ≡ Phase.BeforeHeader
 Numbers m st (between h ts) = Between st h ts
 Numbers m st (inside h ts es prev) = Inside m st h ts es prev
-Numbers m st (finished p) = st.phase ≡ 3
+Numbers m st (finished p) = st.phase ≡ Phase.AfterEnd
 
 -- the pass stands where the definition stands: its numbers, and the bytes that it has written over old
 pub record At (m : Manner) (s : State) (old : List ℕ) (st : Progress) (out : List ℕ) : Type 0 where
@@ -93,38 +93,38 @@ pub record At (m : Manner) (s : State) (old : List ℕ) (st : Progress) (out : L
 -- ---- a step
 
 -- what the code answers is what the definition does
-abbrev pub Answers : Manner → Result State → List ℕ → Step → List ℕ → Type 0
-Answers m x old (Moved st) out = (t : State) × (x ≡ good t) × At m t old st out
-Answers m x old (Bad n) out = x ≡ bad n
+abbrev pub Answers : Manner → Result State → List ℕ → CodeResult Progress Refusal → List ℕ → Type 0
+Answers m x old (Ok st) out = (t : State) × (x ≡ good t) × At m t old st out
+Answers m x old (Err r) out = x ≡ bad (number_of r)
 
 -- the same wherever the pass stands; a refusal says nothing of the room
-abbrev pub Follows : Manner → Progress → List ℕ → (State → Result State) → Step → List ℕ → Type 0
+abbrev pub Follows : Manner → Progress → List ℕ → (State → Result State) → CodeResult Progress Refusal → List ℕ → Type 0
 Follows m st out f r new = (s : State) (old : List ℕ) → At m s old st out → Answers m (f s) old r new
 
 -- in either manner
-abbrev pub FollowsEither : Progress → List ℕ → (State → Result State) → Step → List ℕ → Type 0
+abbrev pub FollowsEither : Progress → List ℕ → (State → Result State) → CodeResult Progress Refusal → List ℕ → Type 0
 FollowsEither st out f r new = (m : Manner) → Follows m st out f r new
 
 -- with nothing written
-abbrev pub FollowsStill : Progress → (State → Result State) → Step → Type 0
+abbrev pub FollowsStill : Progress → (State → Result State) → CodeResult Progress Refusal → Type 0
 FollowsStill st f r = (out : List ℕ) → FollowsEither st out f r out
 
 -- what the arithmetic of a step needs
 pub record Sized (st : Progress) : Type 0 where
   pub at : st.at < 2 ^ 30
   pub tracks : st.tracks ≤ 65535
-  pub size : st.phase ≡ 2 → st.size + 4 ≤ st.at
+  pub size : st.phase ≡ Phase.InTrack → st.size + 4 ≤ st.at
 
 -- the place of the next byte is at most n
-abbrev pub Near : ℕ → Step → Type 0
-Near n (Moved st) = st.at ≤ n
-Near n (Bad k) = Unit {0}
+abbrev pub Near : ℕ → CodeResult Progress Refusal → Type 0
+Near n (Ok st) = st.at ≤ n
+Near n (Err r) = Unit {0}
 
 -- ---- the records
 
 -- what the definition does with a Header of the row's numbers
 abbrev pub header_step : Row → State → Result State
-header_step r = λ s. step_on s header r.track r.time (plain (r.a ∷ r.b ∷ r.c ∷ []))
+header_step r = λ s. step_on s header r.track r.time (plain (take 3 r.columns))
 
 -- with a Start_track
 abbrev pub start_step : Row → State → Result State
@@ -145,14 +145,13 @@ line_step l = λ s. step_told s (tell_line l)
 -- the row was read from the line l
 pub record RowOf (l : List ℕ) (r : Row) : Type 0 where
   pub reads : read_line l ≡ good (record_in l r)
-  pub name : r.name ≤ 28
   pub start : r.start ≤ length l
   pub len : r.len ≤ length l
   pub short : length l ≤ text_limit
 
 -- an event of the Track t at the Time u may stand there, with the delta d
 pub record InTrack (st : Progress) (t u d : ℕ) : Type 0 where
-  pub phase : st.phase ≡ 2
+  pub phase : st.phase ≡ Phase.InTrack
   pub track : t ≡ st.tracks + 1
   pub later : st.time.0 ≤ u
   pub delta : d ≡ u - st.time.0
@@ -160,10 +159,15 @@ pub record InTrack (st : Progress) (t u d : ℕ) : Type 0 where
 
 -- ---- all lines
 
--- the length of the file of the text's piece, or the refusal with its line
-unfoldable pub passed_as : Manner → Outcome Piece → Passed
-passed_as m (ok p r) = Whole (length (file_of m p))
-passed_as m (refused n line) = Stopped n line
+-- the length of the file of a piece, or the refusal with its line
+unfoldable pub length_of : Manner → Outcome Piece → Outcome ℕ
+length_of m (ok p r) = ok (length (file_of m p)) []
+length_of m (refused n line) = refused n line
+
+-- the same of the answer
+unfoldable pub passed_as : CodeResult ℕ Stopped → Outcome ℕ
+passed_as (Ok n) = ok n []
+passed_as (Err s) = refused (number_of s.refusal) s.line
 
 -- a refusal says nothing of the room
 unfoldable pub Leaves : Manner → Outcome Piece → List ℕ → List ℕ → Type 0

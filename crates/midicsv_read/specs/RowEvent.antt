@@ -1,13 +1,15 @@
 -- The event of a row as the event side has it, and its bytes. Outside their ranges numbers are cut to their bits, so that the writer
 -- is total; of a row that was read nothing is cut (row_kind_lem).
-use Rattle.std.specs.Prelude.{ℕ, ◌+◌, ◌%◌, List, ◌++◌, length, get_or}
+use Rattle.std.specs.Prelude.{ℕ, ◌+◌, ◌%◌, Bool, true, false, List, ◌++◌, length, get_or}
 use Rattle.event.specs.Manner.{Manner}
 use Rattle.event.specs.Frame.{no_status}
 use Rattle.event.specs.declared.EventKind.{EventKind}
 use Rattle.event.specs.declared.EventKind.TheVariants.{NoteOff, NoteOn, PolyAftertouch, Control, Program, ChannelAftertouch, PitchBend, SystemExclusive, SystemExclusivePacket, SequenceNumber, Text, ChannelPrefix, MidiPort, EndTrack, Tempo, SmpteOffset, TimeSignature, KeySignature, SequencerSpecific, UnknownMeta}
 use Rattle.event_write.specs.Head.{head_bytes}
 use Rattle.midicsv.specs.Table.{EventName, note_off_name, note_on_name, poly_aftertouch_name, control_change_name, program_change_name, channel_aftertouch_name, pitch_bend_name, system_exclusive_name, system_exclusive_packet_name, sequence_number_name, words, channel_prefix_name, midi_port_name, end_track_name, set_tempo_name, smpte_offset_name, time_signature_name, key_signature_name, sequencer_specific_name, unknown_meta_name, RecordName, header, start_track, end_of_file, event, shape}
-use Rattle.midicsv_record.specs.Row.{name_at, body_in, columns_in}
+use Rattle.midicsv_record.specs.Name.{name_at}
+use Rattle.midicsv_record.specs.declared.Name.{Name}
+use Rattle.midicsv_record.specs.Row.{body_in, columns_in}
 use Rattle.midicsv_record.specs.declared.Row.{Row}
 
 -- the i-th number as a byte
@@ -43,6 +45,31 @@ kind_numbered header v start len = EndTrack
 kind_numbered start_track v start len = EndTrack
 kind_numbered end_of_file v start len = EndTrack
 kind_numbered (event g) v start len = event_kind g v start len
+
+-- the records of events
+unfoldable pub is_event : RecordName → Bool
+is_event header = false
+is_event start_track = false
+is_event end_of_file = false
+is_event (event g) = true
+
+-- how the code parts the names: channel events, texts, and the rest
+abbrev pub part_of : Name → ℕ
+part_of Name.NoteOff = 0
+part_of Name.NoteOn = 0
+part_of Name.PolyAftertouch = 0
+part_of Name.Control = 0
+part_of Name.Program = 0
+part_of Name.ChannelAftertouch = 0
+part_of Name.PitchBend = 0
+part_of Name.Text = 1
+part_of Name.Copyright = 1
+part_of Name.Title = 1
+part_of Name.InstrumentName = 1
+part_of Name.Lyric = 1
+part_of Name.Marker = 1
+part_of Name.CuePoint = 1
+part_of n = 2
 
 -- the event of a row with len data bytes
 abbrev pub row_kind : Row → ℕ → EventKind

@@ -12,13 +12,22 @@ struct DataStep {
     next: usize,
 }
 
-// Where a pass over the records stands: the phase is 0 before the Header, 1 between tracks, 2 in a
-// track, 3 after End_of_file; count is the Header's, tracks are those ended; time and force are the
-// Time and the status after the last event; size is the place of the present track's length, and at
-// that of the next byte.
+// What has been passed of the records: nothing yet; the Header, and so far no track or whole ones; an
+// open track too; End_of_file.
+#[derive(Clone, Copy, PartialEq, Eq)]
+pub enum Phase {
+    BeforeHeader,
+    BetweenTracks,
+    InTrack,
+    AfterEnd,
+}
+
+// Where a pass over the records stands: count is the Header's, tracks are those ended; time and force
+// are the Time and the status after the last event; size is the place of the present track's length,
+// and at that of the next byte.
 #[derive(Clone, Copy)]
 pub struct Progress {
-    pub phase: u8,
+    pub phase: Phase,
     pub count: u32,
     pub tracks: u32,
     pub time: event::Time,
@@ -27,16 +36,9 @@ pub struct Progress {
     pub at: usize,
 }
 
-// One record further, or refused.
+// Why a pass stopped, and at which line.
 #[derive(Clone, Copy)]
-pub enum Step {
-    Moved(Progress),
-    Bad { number: u8 },
-}
-
-// What a pass over all lines answers: the length of the file, or the first refusal with its line.
-#[derive(Clone, Copy)]
-pub enum Passed {
-    Whole(usize),
-    Stopped { number: u8, line: usize },
+pub struct Stopped {
+    pub refusal: event::refusal::Refusal,
+    pub line: usize,
 }

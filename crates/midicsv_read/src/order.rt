@@ -1,18 +1,22 @@
 // Records in their order: each is taken where it may stand, and its bytes are written. The length of
 // a track is known at its End_track, and is then written over the zero that stood for it.
-ghost use Rattle.std.specs.Prelude.{◌≡◌, true, ◌&&◌, [], ◌+◌, ◌≤◌, ◌<◌, ◌^◌, length, eqb};
+ghost use Rattle.std.specs.Prelude.{◌≡◌, ◌↔◌, IsTrue, true, ◌&&◌, [], ◌+◌, ◌≤◌, ◌<◌, ◌^◌, length, slice_index, eqb};
 ghost use Rattle.event_write.specs.Written.{Written};
 ghost use Rattle.event_write.specs.Head.{manner_of};
 ghost use Rattle.smf.specs.Layout.{lay_header};
 ghost use Rattle.smf.specs.Division.{division_ok, division_of};
+ghost use Rattle.midicsv_record.specs.Name.{name_at};
+ghost use Rattle.midicsv_read.specs.RowEvent.{is_event};
+ghost use Rattle.midicsv_read.specs.declared.Phase.TheVariants.{BeforeHeader};
 ghost use Rattle.midicsv_read.specs.Progress.{header_step, start_step, end_step, row_step, line_step, RowOf, InTrack, Follows, FollowsEither, FollowsStill, Near, Sized};
 
 use super::write_row::{put_row, row_kind, status_after};
-use super::{Progress, Step};
+use super::{Phase, Progress};
+use event::refusal::Refusal;
 use event::{Delta, Time};
 use event_write::bytes::{put_four, put_two};
 use midicsv_record::line::read_line;
-use midicsv_record::{LineStep, Row};
+use midicsv_record::{Name, Row};
 use midicsv_scan::frame::{passed_over, trim};
 
 // The longest step between two events.
@@ -22,10 +26,7 @@ const MOST_DELTA: u32 = 268435455;
 fn is_marked(row: Row, track: u32) -> bool
     ensures { result ≡ (eqb row.track track && eqb row.time 0) }
 {
-    if row.track != track {
-        return false;
-    }
-    row.time == 0
+    row.track == track && row.time == 0
 }
 
 // MThd, 6, and the numbers of a Header, its division by its 16 bits.
@@ -41,24 +42,32 @@ fn put_header(out: &mut [u8], at: usize, format: u32, count: u32, bits: u32) -> 
     put_two(out, d, bits)
 }
 
+// Whether no record has been passed yet.
+fn is_first(phase: Phase) -> bool
+    ensures { IsTrue result ↔ phase ≡ BeforeHeader }
+{
+    phase == Phase::BeforeHeader
+}
+
 // A Header stands first.
-fn take_header(out: &mut [u8], st: Progress, row: Row) -> Step
+fn take_header(out: &mut [u8], st: Progress, row: Row) -> Result<Progress, Refusal>
     requires fact_1 { Sized st }
-    requires fact_2 { row.b ≤ 65535 }
-    requires fact_3 { division_ok row.c ≡ true }
+    requires fact_2 { slice_index row.columns 1 ≤ 65535 }
+    requires fact_3 { division_ok (slice_index row.columns 2) ≡ true }
     ensures fact_1 { FollowsEither st out.old (header_step row) result out.new }
     ensures fact_2 { Near (st.at + 15) result }
 {
-    if st.phase != 0 {
-        return Step::Bad { number: 26 };
+    if !is_first(st.phase) {
+        return Err(Refusal::RecordOutOfOrder);
     }
     if !is_marked(row, 0) {
-        return Step::Bad { number: 26 };
+        return Err(Refusal::RecordOutOfOrder);
     }
-    let at = put_header(out, st.at, row.a, row.b, row.c);
-    Step::Moved(Progress {
-        phase: 1,
-        count: row.b,
+    let [format, count, bits, ..] = row.columns;
+    let at = put_header(out, st.at, format, count, bits);
+    Ok(Progress {
+        phase: Phase::BetweenTracks,
+        count,
         tracks: 0,
         time: Time(0),
         force: 0,
@@ -68,63 +77,67 @@ fn take_header(out: &mut [u8], st: Progress, row: Row) -> Step
 }
 
 // A Start_track stands between tracks, while the Header counts more: MTrk, and a zero for the length.
-fn take_start(out: &mut [u8], st: Progress, row: Row) -> Step
+fn take_start(out: &mut [u8], st: Progress, row: Row) -> Result<Progress, Refusal>
     requires { Sized st }
     ensures fact_1 { FollowsEither st out.old (start_step row) result out.new }
     ensures fact_2 { Near (st.at + 15) result }
 {
-    if st.phase != 1 {
-        return Step::Bad { number: 26 };
+    if st.phase != Phase::BetweenTracks {
+        return Err(Refusal::RecordOutOfOrder);
     }
     if st.count <= st.tracks {
-        return Step::Bad { number: 26 };
+        return Err(Refusal::RecordOutOfOrder);
     }
     if !is_marked(row, st.tracks + 1) {
-        return Step::Bad { number: 26 };
+        return Err(Refusal::RecordOutOfOrder);
     }
     let size = put_four(out, st.at, 0x4D54726B);
     let at = put_four(out, size, 0);
-    Step::Moved(Progress {
-        phase: 2,
-        count: st.count,
-        tracks: st.tracks,
+    Ok(Progress {
+        phase: Phase::InTrack,
         time: Time(0),
         force: 0,
         size,
         at,
+        ..st
     })
 }
 
 // An End_of_file stands after as many tracks as the Header counts.
-fn take_end(st: Progress, row: Row) -> Step
+fn take_end(st: Progress, row: Row) -> Result<Progress, Refusal>
     ensures fact_1 { FollowsStill st (end_step row) result }
     ensures fact_2 { Near (st.at + 15) result }
 {
-    if st.phase != 1 {
-        return Step::Bad { number: 26 };
+    if st.phase != Phase::BetweenTracks {
+        return Err(Refusal::RecordOutOfOrder);
     }
     if st.tracks != st.count {
-        return Step::Bad { number: 26 };
+        return Err(Refusal::RecordOutOfOrder);
     }
     if !is_marked(row, 0) {
-        return Step::Bad { number: 26 };
+        return Err(Refusal::RecordOutOfOrder);
     }
-    Step::Moved(Progress {
-        phase: 3,
-        count: st.count,
-        tracks: st.tracks,
+    Ok(Progress {
+        phase: Phase::AfterEnd,
         time: Time(0),
         force: 0,
         size: 0,
-        at: st.at,
+        ..st
     })
 }
 
 // An event that may stand there, with its delta. End_track ends the track, whose length is now known.
-fn put_event(out: &mut [u8], st: Progress, delta: Delta, row: Row, line: &[u8], short: bool) -> Step
+fn put_event(
+    out: &mut [u8],
+    st: Progress,
+    delta: Delta,
+    row: Row,
+    line: &[u8],
+    short: bool,
+) -> Result<Progress, Refusal>
     requires fact_1 { Sized st }
     requires fact_2 { RowOf line.now row }
-    requires fact_3 { 3 ≤ row.name }
+    requires fact_3 { is_event (name_at row.name) ≡ true }
     requires fact_4 { InTrack st row.track row.time delta.0 }
     ensures fact_1 { Follows (manner_of short) st out.old (row_step line.now row) result out.new }
     ensures fact_2 { Near (st.at + 15 + length line.now) result }
@@ -134,71 +147,82 @@ fn put_event(out: &mut [u8], st: Progress, delta: Delta, row: Row, line: &[u8], 
     let kind = row_kind(row, 0);
     if event::read::is_end(kind) {
         put_four(out, st.size, (at - st.size - 4) as u32);
-        return Step::Moved(Progress {
-            phase: 1,
-            count: st.count,
+        return Ok(Progress {
+            phase: Phase::BetweenTracks,
             tracks: st.tracks + 1,
             time: Time(0),
             force: 0,
             size: 0,
             at,
+            ..st
         });
     }
-    Step::Moved(Progress {
-        phase: 2,
-        count: st.count,
-        tracks: st.tracks,
+    Ok(Progress {
         time: Time(row.time),
         force: status_after(kind),
-        size: st.size,
         at,
+        ..st
     })
 }
 
 // An event stands in its track, not before the event before it, and at most 268,435,455 after it.
-fn take_event(out: &mut [u8], st: Progress, row: Row, line: &[u8], short: bool) -> Step
+fn take_event(
+    out: &mut [u8],
+    st: Progress,
+    row: Row,
+    line: &[u8],
+    short: bool,
+) -> Result<Progress, Refusal>
     requires fact_1 { Sized st }
     requires fact_2 { RowOf line.now row }
-    requires fact_3 { 3 ≤ row.name }
+    requires fact_3 { is_event (name_at row.name) ≡ true }
     ensures fact_1 { Follows (manner_of short) st out.old (row_step line.now row) result out.new }
     ensures fact_2 { Near (st.at + 15 + length line.now) result }
 {
-    if st.phase != 2 {
-        return Step::Bad { number: 26 };
+    if st.phase != Phase::InTrack {
+        return Err(Refusal::RecordOutOfOrder);
     }
     if row.track != st.tracks + 1 {
-        return Step::Bad { number: 26 };
+        return Err(Refusal::RecordOutOfOrder);
     }
-    match Time(row.time).since(st.time) {
-        None => Step::Bad { number: 26 },
-        Some(delta) => {
-            let d = delta.0;
-            if MOST_DELTA < d {
-                return Step::Bad { number: 27 };
-            }
-            put_event(out, st, delta, row, line, short)
-        }
+    let Some(delta) = Time(row.time).since(st.time) else {
+        return Err(Refusal::RecordOutOfOrder);
+    };
+    let d = delta.0;
+    if MOST_DELTA < d {
+        return Err(Refusal::StepTooGreat);
     }
+    put_event(out, st, delta, row, line, short)
 }
 
 // A record, by its name.
-fn take_row(out: &mut [u8], st: Progress, row: Row, line: &[u8], short: bool) -> Step
+fn take_row(
+    out: &mut [u8],
+    st: Progress,
+    row: Row,
+    line: &[u8],
+    short: bool,
+) -> Result<Progress, Refusal>
     requires fact_1 { Sized st }
     requires fact_2 { RowOf line.now row }
     ensures fact_1 { Follows (manner_of short) st out.old (row_step line.now row) result out.new }
     ensures fact_2 { Near (st.at + 15 + length line.now) result }
 {
-    let name = row.name;
-    match name {
-        0 => take_header(out, st, row),
-        1 => take_start(out, st, row),
-        2 => take_end(st, row),
+    match row.name {
+        Name::Header => take_header(out, st, row),
+        Name::StartTrack => take_start(out, st, row),
+        Name::EndOfFile => take_end(st, row),
         _ => take_event(out, st, row, line, short),
     }
 }
 
 // A line of the text, without its LF.
-pub fn take_line(out: &mut [u8], st: Progress, line: &[u8], short: bool) -> Step
+pub fn take_line(
+    out: &mut [u8],
+    st: Progress,
+    line: &[u8],
+    short: bool,
+) -> Result<Progress, Refusal>
     requires fact_1 { Sized st }
     requires fact_2 { length line.now ≤ 33554432 }
     ensures fact_1 { Follows (manner_of short) st out.old (line_step line.now) result out.new }
@@ -206,10 +230,8 @@ pub fn take_line(out: &mut [u8], st: Progress, line: &[u8], short: bool) -> Step
 {
     let body = trim(line);
     if passed_over(body) {
-        return Step::Moved(st);
+        return Ok(st);
     }
-    match read_line(body) {
-        LineStep::Wrong { number } => Step::Bad { number },
-        LineStep::Parsed(row) => take_row(out, st, row, body, short),
-    }
+    let row = read_line(body)?;
+    take_row(out, st, row, body, short)
 }

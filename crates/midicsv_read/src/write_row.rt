@@ -1,11 +1,11 @@
 // A row's event written: its head by the event side, its Text or Data from the line.
-ghost use Rattle.std.specs.Prelude.{◌≡◌, ◌-◌, ◌≤◌, ◌<◌, ◌^◌, length, drop};
+ghost use Rattle.std.specs.Prelude.{◌≡◌, ◌-◌, ◌%◌, ◌≤◌, ◌<◌, ◌^◌, length, drop};
 ghost use Rattle.event_write.specs.Written.{Written};
 ghost use Rattle.event_write.specs.Head.{manner_of};
 ghost use Rattle.midicsv.specs.ReadField.{plain};
 ghost use Rattle.midicsv_scan.specs.Unquoted.{unquoted};
 ghost use Rattle.midicsv_record.specs.Row.{data_from};
-ghost use Rattle.midicsv_read.specs.RowEvent.{row_kind, row_body, row_bytes, status_after};
+ghost use Rattle.midicsv_read.specs.RowEvent.{part_of, row_kind, row_body, row_bytes, status_after};
 ghost use Rattle.midicsv_read.specs.Data.{DataIs};
 
 use super::DataStep;
@@ -13,107 +13,129 @@ use event::{Delta, EventKind};
 use event_write::bytes::put_byte;
 use midicsv_record::body::after_comma;
 use midicsv_record::text::text_step;
-use midicsv_record::{Row, TextState, TextStep};
-use midicsv_scan::FieldStep;
+use midicsv_record::{Name, Row, TextState, TextStep};
+use midicsv_scan::FieldAt;
 use midicsv_scan::field::field_at;
 
-// Header, Start_track, End_of_file, which are no events, and the events of three data bytes.
-fn triple_kind(row: Row, len: usize) -> EventKind
-    requires { row.name < 7 }
+// A number as a byte.
+fn byte(n: u32) -> u8
+    ensures { result ≡ n % 256 }
+{
+    (n % 256) as u8
+}
+
+// The channel events.
+#[tactic(auto, unfolding(crate::specs::RowEvent::event_kind, crate::specs::RowEvent::kind_numbered), using(crate::proofs::RowEventLaws::kind_cut))]
+fn channel_kind(row: Row, len: usize) -> EventKind
+    requires { part_of row.name ≡ 0 }
     ensures { result ≡ row_kind row len }
 {
-    let channel = (row.a % 256) as u8;
-    let key = (row.b % 256) as u8;
-    let value = (row.c % 256) as u8;
-    let name = row.name;
-    match name {
-        3 => EventKind::NoteOff {
+    let [first, second, third, ..] = row.columns;
+    let channel = byte(first);
+    let key = byte(second);
+    let value = byte(third);
+    let bend = (second % 65536) as u16;
+    match row.name {
+        Name::NoteOff => EventKind::NoteOff {
             channel,
             key,
             velocity: value,
         },
-        4 => EventKind::NoteOn {
+        Name::NoteOn => EventKind::NoteOn {
             channel,
             key,
             velocity: value,
         },
-        5 => EventKind::PolyAftertouch {
+        Name::PolyAftertouch => EventKind::PolyAftertouch {
             channel,
             key,
             value,
         },
-        6 => EventKind::Control {
+        Name::Control => EventKind::Control {
             channel,
             controller: key,
             value,
         },
-        _ => EventKind::EndTrack,
+        Name::Program => EventKind::Program {
+            channel,
+            number: key,
+        },
+        Name::ChannelAftertouch => EventKind::ChannelAftertouch {
+            channel,
+            value: key,
+        },
+        _ => EventKind::PitchBend {
+            channel,
+            value: bend,
+        },
     }
 }
 
-// The other channel events, the system exclusive ones and Sequence_number.
-fn short_kind(row: Row, len: usize) -> EventKind
-    requires fact_1 { 7 ≤ row.name }
-    requires fact_2 { row.name < 13 }
+// The texts.
+#[tactic(auto, unfolding(crate::specs::RowEvent::event_kind, crate::specs::RowEvent::kind_numbered), using(crate::proofs::RowEventLaws::kind_cut))]
+fn text_kind(row: Row, len: usize) -> EventKind
+    requires { part_of row.name ≡ 1 }
     ensures { result ≡ row_kind row len }
 {
-    let channel = (row.a % 256) as u8;
-    let second = (row.b % 256) as u8;
-    let value = (row.b % 65536) as u16;
-    let start = row.start;
-    let name = row.name;
-    match name {
-        7 => EventKind::Program {
-            channel,
-            number: second,
-        },
-        8 => EventKind::ChannelAftertouch {
-            channel,
-            value: second,
-        },
-        9 => EventKind::PitchBend { channel, value },
-        10 => EventKind::SystemExclusive { start, len },
-        11 => EventKind::SystemExclusivePacket { start, len },
-        _ => EventKind::SequenceNumber { number: row.a },
+    let kind = match row.name {
+        Name::Text => 1,
+        Name::Copyright => 2,
+        Name::Title => 3,
+        Name::InstrumentName => 4,
+        Name::Lyric => 5,
+        Name::Marker => 6,
+        _ => 7,
+    };
+    EventKind::Text {
+        kind,
+        start: row.start,
+        len,
     }
 }
 
-// The metas after the texts.
+// The system exclusive events and the metas but the texts; End_track stands for what is no event too.
+#[tactic(auto, unfolding(crate::specs::RowEvent::event_kind, crate::specs::RowEvent::kind_numbered), using(crate::proofs::RowEventLaws::kind_cut))]
 fn meta_kind(row: Row, len: usize) -> EventKind
-    requires { 20 ≤ row.name }
+    requires { part_of row.name ≡ 2 }
     ensures { result ≡ row_kind row len }
 {
-    let number = (row.a % 256) as u8;
-    let kind = number; // where it is the type of a meta without a name
-    let second = (row.b % 256) as u8;
-    let third = (row.c % 256) as u8;
-    let fourth = (row.d % 256) as u8;
-    let part = (row.e % 256) as u8;
+    let [first, second, third, fourth, fifth] = row.columns;
+    let number = byte(first);
+    let second = byte(second);
+    let third = byte(third);
+    let fourth = byte(fourth);
+    let fifth = byte(fifth);
     let start = row.start;
-    let name = row.name;
-    match name {
-        20 => EventKind::ChannelPrefix { number },
-        21 => EventKind::MidiPort { number },
-        23 => EventKind::Tempo { micros: row.a },
-        24 => EventKind::SmpteOffset {
+    match row.name {
+        Name::SystemExclusive => EventKind::SystemExclusive { start, len },
+        Name::SystemExclusivePacket => EventKind::SystemExclusivePacket { start, len },
+        Name::SequenceNumber => EventKind::SequenceNumber { number: first },
+        Name::ChannelPrefix => EventKind::ChannelPrefix { number },
+        Name::MidiPort => EventKind::MidiPort { number },
+        Name::Tempo => EventKind::Tempo { micros: first },
+        Name::SmpteOffset => EventKind::SmpteOffset {
             hour: number,
             minute: second,
             second: third,
             frame: fourth,
-            part,
+            part: fifth,
         },
-        25 => EventKind::TimeSignature {
+        Name::TimeSignature => EventKind::TimeSignature {
             numerator: number,
             denominator: second,
             click: third,
             notes: fourth,
         },
-        26 => EventKind::KeySignature {
+        Name::KeySignature => EventKind::KeySignature {
             key: number,
             minor: second,
         },
-        27 => EventKind::SequencerSpecific { start, len },
-        28 => EventKind::UnknownMeta { kind, start, len },
+        Name::SequencerSpecific => EventKind::SequencerSpecific { start, len },
+        Name::UnknownMetaEvent => EventKind::UnknownMeta {
+            kind: number,
+            start,
+            len,
+        },
         _ => EventKind::EndTrack,
     }
 }
@@ -122,21 +144,15 @@ fn meta_kind(row: Row, len: usize) -> EventKind
 pub fn row_kind(row: Row, len: usize) -> EventKind
     ensures { result ≡ row_kind row len }
 {
-    let name = row.name;
-    if name < 7 {
-        return triple_kind(row, len);
+    match row.name {
+        Name::NoteOff | Name::NoteOn | Name::PolyAftertouch | Name::Control => {
+            channel_kind(row, len)
+        }
+        Name::Program | Name::ChannelAftertouch | Name::PitchBend => channel_kind(row, len),
+        Name::Text | Name::Copyright | Name::Title | Name::InstrumentName => text_kind(row, len),
+        Name::Lyric | Name::Marker | Name::CuePoint => text_kind(row, len),
+        _ => meta_kind(row, len),
     }
-    if name < 13 {
-        return short_kind(row, len);
-    }
-    if name < 20 {
-        return EventKind::Text {
-            kind: name - 12,
-            start: row.start,
-            len,
-        };
-    }
-    meta_kind(row, len)
 }
 
 // The status in force after an event; 0 is none.
@@ -163,22 +179,15 @@ fn put_quoted(out: &mut [u8], at: usize, line: &[u8], start: usize) -> usize
     ensures { Written out.old at (unquoted (drop start line.now) plain) out.new result }
 {
     let mut next = at;
-    let mut i = start;
     let mut passed = TextState::Plain;
-    while i < line.len() {
-        let c = line[i];
-        i = i + 1;
-        match text_step(passed, c) {
-            TextStep::Nothing(seen) => {
-                passed = seen;
-            }
+    for c in &line[start..] {
+        match text_step(passed, *c) {
+            TextStep::Nothing(seen) => passed = seen,
             TextStep::Byte(b, seen) => {
                 next = put_byte(out, next, b);
                 passed = seen;
             }
-            TextStep::Closed => {
-                return next;
-            }
+            TextStep::Closed => return next,
         }
     }
     next
@@ -189,27 +198,19 @@ fn data_at(line: &[u8], at: usize) -> DataStep
     requires { at ≤ length line.now }
     ensures { DataIs line.now at result }
 {
-    match field_at(line, at) {
-        FieldStep::Number { value, next } => DataStep {
-            byte: (value % 256) as u8,
-            next: after_comma(line, next),
-        },
-        FieldStep::Minus { next, .. } => DataStep {
-            byte: 0,
-            next: after_comma(line, next),
-        },
-        FieldStep::Name { next, .. } => DataStep {
-            byte: 0,
-            next: after_comma(line, next),
-        },
-        FieldStep::Quoted { next, .. } => DataStep {
-            byte: 0,
-            next: after_comma(line, next),
-        },
-        FieldStep::BadField => DataStep {
+    let Some(field) = field_at(line, at) else {
+        return DataStep {
             byte: 0,
             next: line.len(),
+        };
+    };
+    let next = after_comma(line, field.next());
+    match field {
+        FieldAt::Number { value, .. } => DataStep {
+            byte: byte(value),
+            next,
         },
+        _ => DataStep { byte: 0, next },
     }
 }
 
@@ -223,17 +224,16 @@ fn put_data(out: &mut [u8], at: usize, line: &[u8], start: usize, len: usize) ->
 {
     let mut next = at;
     let mut place = start;
-    let mut left = len;
-    while 0 < left {
+    for _ in 0..len {
         let step = data_at(line, place);
         next = put_byte(out, next, step.byte);
         place = step.next;
-        left = left - 1;
     }
     next
 }
 
 // The bytes of a row's Text or Data.
+#[tactic(auto, unfolding(midicsv::specs::Table::shape, midicsv::specs::Table::event_shape, midicsv_record::specs::Row::body_in), using(event_write::proofs::WriteLaws::nothing))]
 fn put_row_body(out: &mut [u8], at: usize, row: Row, line: &[u8]) -> usize
     requires fact_1 { at < 2 ^ 44 }
     requires fact_2 { row.start ≤ length line.now }
@@ -243,11 +243,12 @@ fn put_row_body(out: &mut [u8], at: usize, row: Row, line: &[u8]) -> usize
 {
     let start = row.start;
     let len = row.len;
-    let name = row.name;
-    match name {
-        10..=11 => put_data(out, at, line, start, len),
-        13..=19 => put_quoted(out, at, line, start),
-        27..=28 => put_data(out, at, line, start, len),
+    match row.name {
+        Name::SystemExclusive | Name::SystemExclusivePacket => put_data(out, at, line, start, len),
+        Name::SequencerSpecific | Name::UnknownMetaEvent => put_data(out, at, line, start, len),
+        Name::Text | Name::Copyright | Name::Title => put_quoted(out, at, line, start),
+        Name::InstrumentName | Name::Lyric => put_quoted(out, at, line, start),
+        Name::Marker | Name::CuePoint => put_quoted(out, at, line, start),
         _ => at,
     }
 }

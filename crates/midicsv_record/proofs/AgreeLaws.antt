@@ -1,5 +1,6 @@
 -- A line whose fields are read in turn gives the record of the line, or both have a fault.
 use mathlib.Core.Path.{◌≡◌, refl, sym, ap, ◌∙◌}
+use Rattle.std.specs.Prelude.{Option}
 use Prim.Native.Nat.{ℕ, zero, suc, ◌+◌}
 use mathlib.Core.List.{List, [], ◌∷◌, ◌++◌}
 use native.Mathlib.Omega.{arith}
@@ -21,7 +22,7 @@ use Rattle.midicsv.proofs.FieldsLaws.{fields_step}
 use Rattle.midicsv.proofs.ResultLaws.{not_good, good_same, next_good, next_eq, test_good, test_eq}
 use Rattle.midicsv.proofs.RowAcceptedLaws.{counted_good}
 use Rattle.midicsv_record.specs.InTurn.{field_after, fitting, column_after, columns_after, data_after, tail_after, at_end, last_after, values_after, named_after, record_after, record_in_turn, Refused, Agrees, row_as}
-use Rattle.midicsv_record.specs.declared.RowStep.{RowStep}
+use Rattle.midicsv_record.specs.declared.Row.{Row}
 
 -- ---- fields in turn
 
@@ -298,5 +299,5 @@ agrees l b =
     (λ x e. of_fields_lem (all_fields l) x e (λ fs q z y. record_back fs l x (fields_reading fs (44 ∷ l) q c z) y))
 
 -- the same of the row that the code found
-pub row_agrees : (l : List ℕ) (r s : RowStep) → Bytes l → r ≡ s → row_as l r ≡ record_in_turn l → Agrees (row_as l s) (read_line l)
+pub row_agrees : (l : List ℕ) (r s : Option Row) → Bytes l → r ≡ s → row_as l r ≡ record_in_turn l → Agrees (row_as l s) (read_line l)
 row_agrees l r s b t e = rw (← t, e) (agrees l b)

@@ -1,7 +1,8 @@
 -- Text and Data read from their place in the line.
 use mathlib.Core.Path.{◌≡◌, refl, sym, ◌∙◌, ap}
-use Prim.Native.Nat.{ℕ, zero, suc, ◌+◌, ◌-◌, ◌<◌, ◌≤◌}
-use mathlib.Core.Bool.{Bool, true, false, ◌&&◌}
+use Rattle.std.specs.Prelude.{Option, Some, None, is_some}
+use Prim.Native.Nat.{ℕ, zero, suc, ◌+◌, ◌<◌, ◌≤◌}
+use mathlib.Core.Bool.{Bool, true, false, false≢true, ◌&&◌}
 use mathlib.Core.List.{List, [], ◌∷◌}
 use native.Mathlib.Omega.{arith}
 use lib.ListN.{length, drop, length-drop, drop_of_length-le}
@@ -16,16 +17,15 @@ use Rattle.event.proofs.OutcomeLaws.{not_ok, ok_same, and_then_ok}
 use Rattle.midicsv.specs.Field.{Field, num, minus, name, quoted}
 use Rattle.midicsv.specs.Table.{range, sized}
 use Rattle.midicsv.specs.ReadField.{read_field}
-use Rattle.midicsv.specs.Result.{good, bad, test}
+use Rattle.midicsv.specs.Result.{test}
 use Rattle.midicsv.specs.ReadRecord.{size_of, read_column}
 use Rattle.midicsv.proofs.FieldPartLaws.{field_part}
-use Rattle.midicsv_scan.specs.FieldStep.{field_as}
-use Rattle.midicsv_scan.specs.declared.FieldStep.{FieldStep}
+use Rattle.midicsv_scan.specs.FieldAt.{field_as, next_of}
+use Rattle.midicsv_scan.specs.declared.FieldAt.{FieldAt}
 use Rattle.midicsv_record.specs.Row.{byte_in, after_field, data_from}
 use Rattle.midicsv_record.specs.Column.{field_in, value_as}
-use Rattle.midicsv_record.specs.InTurn.{field_after, fitting, column_after, data_after, tail_after, at_end, last_after, place_after, DataEnd}
-use Rattle.midicsv_record.specs.declared.ColumnStep.{ColumnStep}
-use Rattle.midicsv_record.proofs.InTurnLaws.{field_fits, column_fits, then_then}
+use Rattle.midicsv_record.specs.InTurn.{field_after, fitting, column_after, data_after, tail_after, at_end, last_after, DataEnd}
+use Rattle.midicsv_record.proofs.InTurnLaws.{field_fits, column_fits, column_missing, then_then}
 
 -- ---- after a comma
 
@@ -63,38 +63,36 @@ cons_fault v (ok d (c ∷ t)) e = refl
 cons_fault v (refused n p) e = e
 
 -- a first one that is a data byte, and one that is not
-data_more : (n v : ℕ) (r q : List ℕ) (b : Bool) → 0 < n → ok v q ≡ column_after (range 0 255) r → DataEnd (n - 1) q b → DataEnd n r b
+data_more : (n v : ℕ) (r q : List ℕ) (b : Bool) → ok v q ≡ column_after (range 0 255) r → DataEnd n q b → DataEnd (suc n) r b
 unfolding DataEnd data_after and_then
-data_more zero v r q b h e = absurd (omega arith)
-data_more (suc n) v r q true h e = let z : suc n - 1 ≡ n = omega arith in rw z (λ (d, w). (v ∷ d, rw (← e, w) refl))
-data_more (suc n) v r q false h e = let z : suc n - 1 ≡ n = omega arith in rw (z, ← e) (λ w. cons_fault v (data_after n q) w)
+data_more n v r q true e (d, w) = (v ∷ d, rw (← e, w) refl)
+data_more n v r q false e w = rw (← e) (cons_fault v (data_after n q) w)
 
-data_none : (n : ℕ) (r : List ℕ) → 0 < n → refused 22 0 ≡ column_after (range 0 255) r → DataEnd n r false
+data_none : (n : ℕ) (r : List ℕ) → refused 22 0 ≡ column_after (range 0 255) r → DataEnd (suc n) r false
 unfolding DataEnd data_after and_then
-data_none zero r h e = absurd (omega arith)
-data_none (suc n) r h e = rw (← e) refl
+data_none n r e = rw (← e) refl
 
 -- the answer on all is that on those that are left from at on, of which the field g is the first
-module _ (P : Bool → Type 0) (l : List ℕ) (at left : ℕ) (f g : FieldStep) (inv : (b : Bool) → DataEnd left (drop at l) b → P b) (some : 0 < left)
-    (e : field_as l f ≡ field_after (drop at l)) (z : f ≡ g) where
-  first_byte : fitting (read_column (range 0 255) (field_in l g)) (drop (place_after g) l) ≡ column_after (range 0 255) (drop at l)
-  first_byte = rw (← z) (column_fits (range 0 255) l (drop at l) f e)
+module _ (P : Bool → Type 0) (l : List ℕ) (at left : ℕ) (inv : (b : Bool) → DataEnd (suc left) (drop at l) b → P b) where
+  pub data_on : (f : FieldAt) → field_as l (Some f) ≡ field_after (drop at l) → (o : Option ℕ) → value_as o ≡ read_column (range 0 255) (field_in l f) → is_some o ≡ true → (b : Bool) → DataEnd left (drop (next_of f) l) b → P b
+  unfolding fitting value_as
+  data_on f e (Some v) h n b d = inv b (data_more left v (drop at l) (drop (next_of f) l) b (rw (← h) at (column_fits (range 0 255) l (drop at l) f e)) d)
+  data_on f e None h n b d = absurd (false≢true n)
 
-  pub data_on : (v : ℕ) → good v ≡ read_column (range 0 255) (field_in l g) → (b : Bool) → DataEnd (left - 1) (drop (place_after g) l) b → P b
-  unfolding fitting
-  data_on v h b d = inv b (data_more left v (drop at l) (drop (place_after g) l) b some (rw (← h) at first_byte) d)
+  pub data_off : (f : FieldAt) → field_as l (Some f) ≡ field_after (drop at l) → (o : Option ℕ) → value_as o ≡ read_column (range 0 255) (field_in l f) → is_some o ≡ false → P false
+  unfolding fitting value_as
+  data_off f e (Some v) h n = absurd (false≢true (sym n))
+  data_off f e None h n = inv false (data_none left (drop at l) (rw (← h) at (column_fits (range 0 255) l (drop at l) f e)))
 
-  pub data_off : bad 25 ≡ read_column (range 0 255) (field_in l g) → P false
-  unfolding fitting
-  data_off h = inv false (data_none left (drop at l) some (rw (← h) at first_byte))
+  pub data_missing : refused 22 0 ≡ field_after (drop at l) → P false
+  data_missing e = inv false (data_none left (drop at l) (column_missing (range 0 255) (drop at l) e))
 
-pub data_done : (l : List ℕ) (at left : ℕ) → left ≤ 0 → DataEnd left (drop at l) (leb (length l) at)
+pub data_done : (l : List ℕ) (at : ℕ) → DataEnd 0 (drop at l) (leb (length l) at)
 unfolding DataEnd data_after and_then
-data_done l at zero h =
+data_done l at =
     by_test (leb (length l) at)
     (λ t. rw (t, drop_of_length-le l (leb-true (length l) at t)) ([], refl))
     (λ t. rw t (end_short {A = List ℕ} [] l at (leb-false (length l) at t)))
-data_done l at (suc n) h = absurd (omega arith)
 
 -- ---- what the Data are
 
@@ -134,14 +132,19 @@ data_are (suc n) r d t b e =
 -- ---- Length and Data
 
 -- by the number w that the code has for the Length
-pub size_fits : (l r : List ℕ) (f : FieldStep) (v w : ColumnStep) → field_as l f ≡ field_after r → value_as v ≡ size_of (field_in l f) → v ≡ w
-    → and_then (fitting (value_as w) (drop (place_after f) l)) (λ n t. data_to_end n t) ≡ last_after sized r
+pub size_fits : (l r : List ℕ) (f : FieldAt) (v : Option ℕ) → field_as l (Some f) ≡ field_after r → value_as v ≡ size_of (field_in l f)
+    → and_then (fitting (value_as v) (drop (next_of f) l)) (λ n t. data_to_end n t) ≡ last_after sized r
 unfolding last_after tail_after size_of
-size_fits l r f v w e z u =
-    rw (← u, z) (
-    ap (λ m. and_then m (λ n t. data_to_end n t)) (field_fits size_of l r f refl e)
+size_fits l r f v e z =
+    rw z (
+    ap (λ m. and_then m (λ n t. data_to_end n t)) (field_fits size_of l r f e)
     ∙ sym (then_then (and_then (field_after r) (λ x q. fitting (size_of x) q)) (λ n t. data_after n t) (λ d q. at_end d q))
     ∙ ap (λ m. and_then m (λ d q. at_end d q)) (then_then (field_after r) (λ x q. fitting (size_of x) q) (λ n t. data_after n t)))
+
+-- no Length
+pub size_missing : (r : List ℕ) → refused 22 0 ≡ field_after r → refused 22 0 ≡ last_after sized r
+unfolding last_after tail_after and_then
+size_missing r e = rw (← e) refl
 
 -- Data that are read to the end
 pub data_good : (l : List ℕ) (n q start : ℕ) → Bytes l → DataEnd n (drop q l) true → drop start l ≡ drop (q + 1) l

@@ -1,59 +1,52 @@
 -- Fields and columns read in turn.
 use mathlib.Core.Path.{◌≡◌, refl, sym, ◌∙◌, ap}
-use Prim.Native.Nat.{ℕ, zero, suc, ◌<◌, ◌≤◌}
-use mathlib.Core.List.{List, [], ◌∷◌}
+use Rattle.std.specs.Prelude.{Some}
+use Prim.Native.Nat.{ℕ, suc, ◌+◌, ◌<◌}
+use mathlib.Core.List.{List, [], ◌∷◌, ◌++◌, map, append_assoc, append-nil}
 use native.Mathlib.Omega.{arith}
 use native.Mathlib.Numerals.{add-one}
-use lib.ListN.{length, take, drop}
-use lib.Seq.{drop-drop}
+use lib.ListN.{length, get_or, take, drop, set, drop_of_length-le, length-map, get_or-map}
+use lib.Seq.{drop-cons}
+use Rattle.std.proofs.lemmas.List.{take_more_set}
 use Rattle.event.specs.Outcome.{Outcome, ok, refused, and_then, value_or}
 use Rattle.event.proofs.OutcomeLaws.{and_then_same}
-use Rattle.midicsv.specs.Field.{Field, name}
-use Rattle.midicsv.specs.Table.{Column, range, key, mode, free_type, division}
-use Rattle.midicsv.specs.Result.{Result, bad, next}
-use Rattle.midicsv.specs.ReadRecord.{read_signed, read_column}
-use Rattle.midicsv_scan.specs.FieldStep.{field_as}
-use Rattle.midicsv_scan.specs.declared.FieldStep.{FieldStep}
-use Rattle.midicsv_scan.specs.declared.FieldStep.TheVariants.{Number, Minus, Name, Quoted, BadField}
-use Rattle.midicsv_record.specs.Column.{field_in, value_as}
-use Rattle.midicsv_record.specs.Table.{column_as, read_first}
-use Rattle.midicsv_record.specs.InTurn.{field_after, fitting, column_after, columns_after, place_after, first_after}
+use Rattle.midicsv.specs.Field.{Field}
+use Rattle.midicsv.specs.Table.{Column}
+use Rattle.midicsv.specs.Result.{Result, next}
+use Rattle.midicsv.specs.ReadRecord.{read_column}
+use Rattle.midicsv_scan.specs.FieldAt.{field_as, next_of}
+use Rattle.midicsv_scan.specs.declared.FieldAt.{FieldAt}
+use Rattle.midicsv_scan.specs.declared.FieldAt.TheVariants.{Number, Minus, Name, Quoted}
+use Rattle.midicsv_record.specs.Column.{field_in}
+use Rattle.midicsv_record.specs.Table.{column_as}
+use Rattle.midicsv_record.specs.InTurn.{field_after, fitting, column_after, columns_after}
 use Rattle.midicsv_record.specs.declared.ColumnKind.{ColumnKind}
-use Rattle.midicsv_record.specs.declared.ColumnStep.{ColumnStep}
 
 -- ---- a field
 
--- the value that g gives of a field; the field that stands for none must fit no g
-pub field_fits : {A : Type 0} (g : Field → Result A) (l r : List ℕ) (f : FieldStep) → g (name []) ≡ bad 25 → field_as l f ≡ field_after r
-    → fitting (g (field_in l f)) (drop (place_after f) l) ≡ and_then (field_after r) (λ x q. fitting (g x) q)
-unfolding field_as place_after value_or and_then fitting
-field_fits g l r (Number value next) b e = rw (← e) refl
-field_fits g l r (Minus value next) b e = rw (← e) refl
-field_fits g l r (Name start end next) b e = rw (← e) refl
-field_fits g l r (Quoted start next) b e = rw (← e) refl
-field_fits g l r BadField b e = rw (← e, b) refl
+-- the value that g gives of a field
+pub field_fits : {A : Type 0} (g : Field → Result A) (l r : List ℕ) (f : FieldAt) → field_as l (Some f) ≡ field_after r
+    → fitting (g (field_in l f)) (drop (next_of f) l) ≡ and_then (field_after r) (λ x q. fitting (g x) q)
+unfolding field_as value_or and_then fitting
+field_fits g l r (Number value next) e = rw (← e) refl
+field_fits g l r (Minus value next) e = rw (← e) refl
+field_fits g l r (Name start end next) e = rw (← e) refl
+field_fits g l r (Quoted start next) e = rw (← e) refl
+
+-- no field
+pub none_after : {A : Type 0} (r : List ℕ) (k : Field → List ℕ → Outcome A) → refused 22 0 ≡ field_after r → refused 22 0 ≡ and_then (field_after r) k
+unfolding and_then
+none_after r k e = rw (← e) refl
 
 -- ---- a column
 
--- a name fits no column
-name_misfits : (c : Column) (s : List ℕ) → read_column c (name s) ≡ bad 25
-unfolding read_column read_signed next
-name_misfits (range lo hi) s = refl
-name_misfits key s = refl
-name_misfits mode s = refl
-name_misfits free_type s = refl
-name_misfits division s = refl
-
-pub column_fits : (c : Column) (l r : List ℕ) (f : FieldStep) → field_as l f ≡ field_after r → fitting (read_column c (field_in l f)) (drop (place_after f) l) ≡ column_after c r
+pub column_fits : (c : Column) (l r : List ℕ) (f : FieldAt) → field_as l (Some f) ≡ field_after r → fitting (read_column c (field_in l f)) (drop (next_of f) l) ≡ column_after c r
 unfolding column_after
-column_fits c l r f e = field_fits (read_column c) l r f (name_misfits c []) e
+column_fits c l r f e = field_fits (read_column c) l r f e
 
--- the first of the columns, of which there is one, by the column k that the code has for it
-pub first_fits : (cs : List Column) (l r : List ℕ) (k : ColumnKind) (f : FieldStep) (v w : ColumnStep) → 0 < length cs → column_as k ≡ take 1 cs → field_as l f ≡ field_after r
-    → value_as v ≡ read_first (column_as k) (field_in l f) → v ≡ w → fitting (value_as w) (drop (place_after f) l) ≡ first_after cs r
-unfolding read_first first_after
-first_fits [] l r k f v w h s e z u = absurd (omega arith)
-first_fits (c ∷ cs) l r k f v w h s e z u = rw (← u, z, s) (column_fits c l r f e)
+pub column_missing : (c : Column) (r : List ℕ) → refused 22 0 ≡ field_after r → refused 22 0 ≡ column_after c r
+unfolding column_after
+column_missing c r e = none_after r _ e
 
 -- ---- all columns
 
@@ -63,29 +56,51 @@ module _ {A B C : Type 0} where
   then_then (ok a r) f g = refl
   then_then (refused n p) f g = refl
 
--- k numbers, of the columns from the i-th on; 0 past the last
-unfoldable pub firsts_after : ℕ → List Column → ℕ → List ℕ → Outcome (List ℕ)
-firsts_after zero cs i r = ok [] r
-firsts_after (suc k) cs i r = and_then (first_after (drop i cs) r) (λ v q. and_then (firsts_after k cs (suc i) q) (λ vs t. ok (v ∷ vs) t))
+first_taken : (c : Column) (cs : List Column) (v : ℕ) (q s : List ℕ) → ok v s ≡ column_after c q → columns_after (c ∷ cs) q ≡ and_then (columns_after cs s) (λ vs t. ok (v ∷ vs) t)
+unfolding columns_after and_then
+first_taken c cs v q s e = rw (← e) refl
 
--- the columns from the next on
-next_columns : (cs ds : List Column) (i : ℕ) → drop i cs ≡ ds → drop (suc i) cs ≡ drop 1 ds
-next_columns cs ds i e = rw (← (add-one i), ← (drop-drop 1 i cs), e) refl
+first_refused : (c : Column) (cs : List Column) (q : List ℕ) → refused 22 0 ≡ column_after c q → refused 22 0 ≡ columns_after (c ∷ cs) q
+unfolding columns_after and_then
+first_refused c cs q e = rw (← e) refl
 
--- of them the first are those of the columns ds that there are
-firsts_are : (k : ℕ) (cs ds : List Column) (i : ℕ) (r : List ℕ) → length ds ≤ k → drop i cs ≡ ds
-    → and_then (firsts_after k cs i r) (λ vs t. ok (take (length ds) vs) t) ≡ columns_after ds r
-unfolding firsts_after columns_after first_after and_then
-firsts_are zero cs [] i r h e = refl
-firsts_are zero cs (d ∷ ds) i r h e = absurd (omega arith)
-firsts_are (suc k) cs [] i r h e = rw e (then_then (firsts_after k cs (suc i) r) _ _ ∙ firsts_are k cs [] (suc i) r (omega arith) (next_columns cs [] i e))
-firsts_are (suc k) cs (d ∷ ds) i r h e =
-    rw e (
-    then_then (column_after d r) _ _
-    ∙ and_then_same (column_after d r) _ _ (λ v q z.
-    then_then (firsts_after k cs (suc i) q) _ _
-    ∙ sym (then_then (firsts_after k cs (suc i) q) (λ vs t. ok (take (length ds) vs) t) (λ ns t. ok (v ∷ ns) t))
-    ∙ ap (λ m. and_then m (λ ns t. ok (v ∷ ns) t)) (firsts_are k cs ds (suc i) q (omega arith) (next_columns cs (d ∷ ds) i e))))
+same_values : (m : Outcome (List ℕ)) → and_then m (λ vs t. ok vs t) ≡ m
+unfolding and_then
+same_values (ok vs t) = refl
+same_values (refused n p) = refl
 
-pub five_firsts : (cs : List Column) (r : List ℕ) → length cs ≤ 5 → and_then (firsts_after 5 cs 0 r) (λ vs t. ok (take (length cs) vs) t) ≡ columns_after cs r
-five_firsts cs r h = firsts_are 5 cs cs 0 r h refl
+-- the first i of the numbers xs are those of the first i columns, and q is left
+module _ (cs : List Column) (r : List ℕ) where
+  abbrev pub FirstsRead : List ℕ → ℕ → List ℕ → Type 0
+  FirstsRead xs i q = and_then (columns_after (drop i cs) q) (λ vs t. ok (take i xs ++ vs) t) ≡ columns_after cs r
+
+  pub none_read : (xs : List ℕ) → FirstsRead xs 0 r
+  none_read xs = same_values (columns_after cs r)
+
+  module _ (xs : List ℕ) (i : ℕ) (q : List ℕ) (a : FirstsRead xs i q) (c : Column) (h : drop i cs ≡ c ∷ drop (i + 1) cs) where
+    pub one_read : (v : ℕ) (s : List ℕ) → i < length xs → ok v s ≡ column_after c q → FirstsRead (set xs i v) (i + 1) s
+    unfolding and_then
+    one_read v s n e =
+        let rest = columns_after (drop (i + 1) cs) s in
+        rw (take_more_set xs i v n)
+        (and_then_same rest _ _ (λ vs t z. ap (λ ys. ok ys t) (append_assoc (take i xs) (v ∷ []) vs))
+        ∙ sym (then_then rest (λ vs t. ok (v ∷ vs) t) (λ vs t. ok (take i xs ++ vs) t))
+        ∙ ap (λ m. and_then m (λ vs t. ok (take i xs ++ vs) t)) (sym (first_taken c (drop (i + 1) cs) v q s e))
+        ∙ (rw h at a))
+
+    pub none_fits : refused 22 0 ≡ column_after c q → refused 22 0 ≡ columns_after cs r
+    unfolding and_then
+    none_fits e = ap (λ m. and_then m (λ vs t. ok (take i xs ++ vs) t)) (first_refused c (drop (i + 1) cs) q e) ∙ (rw h at a)
+
+  pub all_read : (xs q : List ℕ) → FirstsRead xs (length cs) q → ok (take (length cs) xs) q ≡ columns_after cs r
+  unfolding columns_after and_then
+  all_read xs q a = let b = rw (drop_of_length-le cs {i = length cs} (omega arith), append-nil (take (length cs) xs)) at a in b
+
+-- the column numbered i from 0, of the columns ks that the code has
+pub column_here : (ks : List ColumnKind) (cs : List Column) (i : ℕ) (d : ColumnKind) → map column_as ks ≡ cs → i < length ks → drop i cs ≡ column_as (get_or ks i d) ∷ drop (i + 1) cs
+column_here ks cs i d e h =
+    let inside : i < length (map column_as ks) = rw (length-map ks column_as) h in
+    rw (← e, add-one i) (drop-cons (map column_as ks) i (column_as d) inside ∙ ap (λ c. c ∷ drop (suc i) (map column_as ks)) (get_or-map column_as ks i d))
+
+pub columns_counted : (ks : List ColumnKind) (cs : List Column) → map column_as ks ≡ cs → length ks ≡ length cs
+columns_counted ks cs e = sym (length-map ks column_as) ∙ ap length e

@@ -1,9 +1,9 @@
 pub mod TableLaws
-mod ColumnAtLaws
 mod ColumnLaws
 pub mod TextLaws
 mod WordLaws
 mod FieldInLaws
+mod OtherFieldLaws
 mod FiveLaws
 mod InTurnLaws
 pub mod BodyLaws

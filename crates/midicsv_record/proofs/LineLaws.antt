@@ -6,41 +6,32 @@ use mathlib.Core.List.{List, [], ◌∷◌}
 use native.Mathlib.Omega.{arith}
 use lib.ListN.{length, get_or, take, drop}
 use lib.Dec.{ltb, eqb}
-use borrow.Author.Tests.{le-leb, lt-leb}
-use Rattle.event.specs.Choice.{pick}
 use Rattle.event.specs.Outcome.{ok, value_or}
-use Rattle.midicsv.specs.Field.{Field, num, name}
-use Rattle.midicsv.specs.Table.{event_spelled, spelled, RecordName, header, start_track, end_of_file, event, Tail, none, one_text, sized, shape}
+use Rattle.midicsv.specs.Field.{Field, num}
+use Rattle.midicsv.specs.Table.{RecordName, header, start_track, end_of_file, event, Tail, none, one_text, sized, shape}
 use Rattle.midicsv.specs.ReadField.{all_fields}
 use Rattle.midicsv.specs.Result.{Result, good, bad, next, test}
-use Rattle.midicsv.specs.Names.{same_name, find, name_from}
-use Rattle.smf.specs.Piece.{tracks_fit}
+use Rattle.midicsv.specs.Names.{name_from}
 use Rattle.midicsv.specs.ReadRecord.{size_of, counted, together, record_of, of_fields, read_line}
-use Rattle.midicsv_scan.specs.FieldStep.{Counted, FieldIs}
-use Rattle.midicsv_record.specs.Row.{name_at, name_as}
+use Rattle.midicsv_scan.specs.FieldAt.{Counted, FieldIs}
+use Rattle.midicsv_record.specs.Name.{name_at, name_as}
+use Rattle.midicsv_record.specs.declared.Name.{Name}
 use Rattle.midicsv_record.specs.Table.{columns_at, tail_at}
 use Rattle.midicsv_record.specs.Column.{field_in, fields_in, later_in}
 use Rattle.midicsv_record.specs.Line.{Fields, size_in, values_of, row_in, named_in}
-use Rattle.midicsv_scan.specs.declared.FieldStep.{FieldStep}
-use Rattle.midicsv_scan.specs.declared.FieldCount.TheVariants.{Count}
+use Rattle.midicsv_scan.specs.declared.FieldAt.{FieldAt}
+use Rattle.std.specs.Prelude.{Some, None}
 use Rattle.midicsv_record.proofs.FieldInLaws.{field_in_lem}
 
 -- the Header alone asks for more
-pub together_cut : (n : RecordName) (a b c d e : ℕ) → together n (take (length (shape n).columns) (a ∷ b ∷ c ∷ d ∷ e ∷ [])) ≡ together n (a ∷ b ∷ c ∷ d ∷ e ∷ [])
+pub together_cut : (n : RecordName) (ns : List ℕ) → together n (take (length (shape n).columns) ns) ≡ together n ns
 unfolding together shape
-together_cut header a b c d e = refl
-together_cut start_track a b c d e = refl
-together_cut end_of_file a b c d e = refl
-together_cut (event g) a b c d e = refl
-
--- ---- a name without the Header's rule
-
-pub no_header : (n : RecordName) (ns : List ℕ) → together n [] ≡ true → true ≡ together n ns
-unfolding together tracks_fit
-no_header header ns e = let z : ◌≡◌ {A = Bool} false true = e in cc
-no_header start_track ns e = refl
-no_header end_of_file ns e = refl
-no_header (event g) ns e = refl
+together_cut header [] = refl
+together_cut header (a ∷ []) = refl
+together_cut header (a ∷ b ∷ ns) = refl
+together_cut start_track ns = refl
+together_cut end_of_file ns = refl
+together_cut (event g) ns = refl
 
 -- ---- the count, then the values
 
@@ -63,17 +54,17 @@ module _ {A : Type 0} where
   counted_next k one_text fs x m = test_next (eqb (length fs) (k + 1)) x m
   counted_next k sized fs x m = sized_next (ltb k (length fs)) (size_of (get_or fs k (num 0))) (λ n. eqb (length fs) (k + 1 + n)) x m
 
-pub size_wrong : (l : List ℕ) (n number : ℕ) → n ≤ 28 → bad number ≡ size_in n (later_in l) → bad number ≡ named_in l (name_as n)
-unfolding named_in name_as size_in pick next
-size_wrong l n number h e = sym (rw (le-leb n 28 h, counted_next (length (columns_at n)) (tail_at n) (later_in l) 0 (row_in l (name_at n)), ← e) refl)
+pub size_wrong : (l : List ℕ) (n : Name) (number : ℕ) → bad number ≡ size_in n (later_in l) → bad number ≡ named_in l (name_as (Some n))
+unfolding named_in name_as size_in next
+size_wrong l n number e = sym (rw (counted_next (length (columns_at n)) (tail_at n) (later_in l) 0 (row_in l (name_at n)), ← e) refl)
 
-pub size_right : (l : List ℕ) (n len : ℕ) → n ≤ 28 → good len ≡ size_in n (later_in l) → row_in l (name_at n) ≡ named_in l (name_as n)
-unfolding named_in name_as size_in pick next
-size_right l n len h e = sym (rw (le-leb n 28 h, counted_next (length (columns_at n)) (tail_at n) (later_in l) 0 (row_in l (name_at n)), ← e) refl)
+pub size_right : (l : List ℕ) (n : Name) (len : ℕ) → good len ≡ size_in n (later_in l) → row_in l (name_at n) ≡ named_in l (name_as (Some n))
+unfolding named_in name_as size_in next
+size_right l n len e = sym (rw (counted_next (length (columns_at n)) (tail_at n) (later_in l) 0 (row_in l (name_at n)), ← e) refl)
 
-pub name_wrong : (l : List ℕ) (n : ℕ) → 28 < n → bad 23 ≡ named_in l (name_as n)
-unfolding named_in name_as pick next
-name_wrong l n h = rw (lt-leb n 28 h) refl
+pub name_wrong : (l : List ℕ) → bad 23 ≡ named_in l (name_as None)
+unfolding named_in name_as next
+name_wrong l = refl
 
 -- ---- the fields, then the name
 
@@ -81,7 +72,7 @@ fields_are : (l : List ℕ) (fs : List Field) → all_fields l ≡ ok fs [] → 
 unfolding value_or
 fields_are l fs e = rw e refl
 
-pub fields_count : (l : List ℕ) (count : ℕ) → Counted l (Count count) → 3 ≤ count → Fields l count
+pub fields_count : (l : List ℕ) (count : ℕ) → Counted l (Some count) → 3 ≤ count → Fields l count
 unfolding Counted
 fields_count l count (fs, e, h) k = let z = fields_are l fs e in record { fields = rw z e; counts = rw z h; three = k }
 
@@ -92,7 +83,7 @@ few_fields (a ∷ []) h = refl
 few_fields (a ∷ b ∷ []) h = refl
 few_fields (a ∷ b ∷ c ∷ fs) h = absurd (omega arith)
 
-pub line_few : (l : List ℕ) (count : ℕ) → Counted l (Count count) → count < 3 → bad 24 ≡ read_line l
+pub line_few : (l : List ℕ) (count : ℕ) → Counted l (Some count) → count < 3 → bad 24 ≡ read_line l
 unfolding Counted read_line of_fields
 line_few l count (fs, e, h) k = rw e (few_fields fs (omega arith))
 
@@ -108,10 +99,5 @@ line_named : (l : List ℕ) (count : ℕ) → Fields l count → read_line l ≡
 unfolding read_line of_fields named_in
 line_named l count a = ap of_fields a.fields ∙ record_named (fields_in l) (omega (arith, a.counts, a.three))
 
-pub third_named : (l : List ℕ) (count : ℕ) → Fields l count → (r : FieldStep) → FieldIs l 2 r → read_line l ≡ named_in l (name_from (field_in l r))
+pub third_named : (l : List ℕ) (count : ℕ) → Fields l count → (r : FieldAt) → FieldIs l 2 (Some r) → read_line l ≡ named_in l (name_from (field_in l r))
 third_named l count a r f = line_named l count a ∙ ap (λ x. named_in l (name_from x)) (sym (field_in_lem l 2 r a.fields (omega (arith, a.counts, a.three)) f))
-
--- the name of no letters is not listed
-pub no_name : name_from (name []) ≡ bad 23
-unfolding name_from find same_name spelled event_spelled pick
-no_name = refl

@@ -13,10 +13,12 @@ use Rattle.midicsv.specs.Result.{Result, good, bad, next, test}
 use Rattle.midicsv.specs.Names.{name_from}
 use Rattle.midicsv.specs.ReadRecord.{counted, read_signed, read_column, read_bytes, read_text, read_tail, read_columns, with_values, read_line}
 use Rattle.midicsv.proofs.ResultLaws.{test_good}
-use Rattle.midicsv_scan.specs.FieldStep.{Counted, FieldIs}
-use Rattle.midicsv_scan.specs.declared.FieldStep.{FieldStep}
-use Rattle.midicsv_scan.specs.declared.FieldCount.TheVariants.{Count}
-use Rattle.midicsv_record.specs.Row.{name_at, name_as}
+use Rattle.midicsv_scan.specs.FieldAt.{Counted, FieldIs}
+use Rattle.midicsv_scan.specs.declared.FieldAt.{FieldAt}
+use Rattle.std.specs.Prelude.{Some, None}
+use Rattle.midicsv_record.proofs.FieldInLaws.{field_there}
+use Rattle.midicsv_record.specs.Name.{name_at, name_as}
+use Rattle.midicsv_record.specs.declared.Name.{Name}
 use Rattle.midicsv_record.specs.Table.{columns_at, tail_at}
 use Rattle.midicsv_record.specs.Column.{field_in, later_in}
 use Rattle.midicsv_record.specs.Line.{size_in, values_of, named_in}
@@ -123,13 +125,17 @@ counted_least k none fs m len e = let q = eqb-true (length fs) k (test_good _ 24
 counted_least k one_text fs m len e = let q = eqb-true (length fs) (k + 1) (test_good _ 24 _ len e).0 in omega arith
 counted_least k sized fs m len e = let q = ltb-true k (length fs) (test_good _ 24 _ len e).0 in omega arith
 
-pub only_range : (l : List ℕ) (n len : ℕ) → n ≤ 28 → good len ≡ size_in n (later_in l) → Refused (named_in l (name_as n)) → bad 25 ≡ named_in l (name_as n)
+pub only_range : (l : List ℕ) (n : Name) (len : ℕ) → good len ≡ size_in n (later_in l) → Refused (named_in l (name_as (Some n))) → bad 25 ≡ named_in l (name_as (Some n))
 unfolding size_in
-only_range l n len h e r =
+only_range l n len e r =
     let k = counted_least (length (columns_at n)) (tail_at n) (later_in l) _ len (sym e) in
-    refused_only (named_in l (name_as n)) (subst Only (size_right l n len h e) (values_only (name_at n) _ _ (later_in l) k)) r
+    refused_only (named_in l (name_as (Some n))) (subst Only (size_right l n len e) (values_only (name_at n) _ _ (later_in l) k)) r
 
 -- a line of three fields or more by the name that its third field gives, or 23
-pub third_is : (l : List ℕ) (count : ℕ) → Counted l (Count count) → 3 ≤ count → (r s : FieldStep) → FieldIs l 2 r → r ≡ s
-    → (m : Result RecordName) → m ≡ name_from (field_in l s) → named_in l m ≡ read_line l
-third_is l count e h r s f t m z = sym (third_named l count (fields_count l count e h) r f ∙ rw (t, ← z) refl)
+pub third_is : (l : List ℕ) (count : ℕ) → Counted l (Some count) → 3 ≤ count → (f : FieldAt) → FieldIs l 2 (Some f)
+    → (m : Result RecordName) → m ≡ name_from (field_in l f) → named_in l m ≡ read_line l
+third_is l count e h f t m z = sym (third_named l count (fields_count l count e h) f t ∙ rw (← z) refl)
+
+-- it has a third field
+pub third_there : {X : Type 0} (l : List ℕ) (count : ℕ) → Counted l (Some count) → 3 ≤ count → FieldIs l 2 None → X
+third_there l count e h t = let a = fields_count l count e h in field_there l 2 a.fields (omega (arith, a.counts, a.three)) t

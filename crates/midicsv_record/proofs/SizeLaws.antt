@@ -1,5 +1,5 @@
 -- The count of a line's fields beside its name and its Length.
-use mathlib.Core.Path.{◌≡◌, refl, sym, ◌∙◌}
+use mathlib.Core.Path.{◌≡◌, refl}
 use Prim.Native.Nat.{ℕ, ◌+◌, ◌<◌, ◌≤◌}
 use mathlib.Core.List.{List}
 use native.Mathlib.Omega.{arith}
@@ -12,6 +12,7 @@ use Rattle.midicsv.specs.Field.{Field, num}
 use Rattle.midicsv.specs.Table.{none, one_text, sized}
 use Rattle.midicsv.specs.Result.{Result, good, bad, next, test}
 use Rattle.midicsv.specs.ReadRecord.{size_of, counted}
+use Rattle.midicsv_record.specs.declared.Name.{Name}
 use Rattle.midicsv_record.specs.Table.{columns_at, tail_at}
 use Rattle.midicsv_record.specs.Column.{fields_in, later_in}
 use Rattle.midicsv_record.specs.Line.{Fields, size_in}
@@ -24,7 +25,7 @@ same_test m a b c d f g =
     (λ t. let e = eqb-true a b t in rw (t, eq-eqb c d (f e)) refl)
     (λ t. let n = eqb-false a b t in rw (t, ne_eqb c d (λ z. n (g z))) refl)
 
-module _ (l : List ℕ) (count n : ℕ) (a : Fields l count) where
+module _ (l : List ℕ) (count : ℕ) (n : Name) (a : Fields l count) where
   later_count : length (later_in l) + 3 ≡ count
   later_count = omega (arith, a.counts, a.three, length-drop 3 (fields_in l))
 
@@ -44,17 +45,20 @@ module _ (l : List ℕ) (count n : ℕ) (a : Fields l count) where
   unfolding size_in counted test
   size_missing e h = let k = later_count in rw (e, le-ltb (length (columns_at n)) (length (later_in l)) (omega arith)) refl
 
-  module _ (e : tail_at n ≡ sized) (h : 3 + length (columns_at n) < count) (x : Field) (f : x ≡ get_or (fields_in l) (3 + length (columns_at n)) (num 0)) where
-    length_field : get_or (later_in l) (length (columns_at n)) (num 0) ≡ x
-    length_field = get_or-drop 3 (fields_in l) (length (columns_at n)) (num 0) ∙ sym f
+  module _ (e : tail_at n ≡ sized) (h : 3 + length (columns_at n) < count) where
+    abbrev pub the_length : Field
+    the_length = get_or (fields_in l) (3 + length (columns_at n)) (num 0)
 
-    pub size_off : bad 25 ≡ size_of x → bad 25 ≡ size_in n (later_in l)
+    length_field : get_or (later_in l) (length (columns_at n)) (num 0) ≡ the_length
+    length_field = get_or-drop 3 (fields_in l) (length (columns_at n)) (num 0)
+
+    pub size_off : bad 25 ≡ size_of the_length → bad 25 ≡ size_in n (later_in l)
     unfolding size_in counted test next
     size_off z =
         let k = later_count in
         rw (e, lt-ltb (length (columns_at n)) (length (later_in l)) (omega arith), length_field, ← z) refl
 
-    pub size_sized : (v : ℕ) → good v ≡ size_of x → test (eqb count (3 + length (columns_at n) + 1 + v)) 24 (good 0) ≡ size_in n (later_in l)
+    pub size_sized : (v : ℕ) → good v ≡ size_of the_length → test (eqb count (3 + length (columns_at n) + 1 + v)) 24 (good 0) ≡ size_in n (later_in l)
     unfolding size_in counted test next
     size_sized v z =
         let k = later_count in

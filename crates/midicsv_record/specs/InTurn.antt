@@ -1,6 +1,6 @@
 -- The record of a line read in turn: each field from the comma before it on. Here a fault is a fault, whichever it is, and
 -- refused 22 0 stands for all: its number is asked of the whole line afterwards.
-use Rattle.std.specs.Prelude.{◌≡◌, ℕ, zero, suc, ◌≤◌, Bool, true, false, List, [], ◌∷◌, length, take, drop}
+use Rattle.std.specs.Prelude.{◌≡◌, ℕ, zero, suc, ◌≤◌, Bool, true, false, List, [], ◌∷◌, length, take, drop, Option, Some, None}
 use Rattle.event.specs.Outcome.{Outcome, ok, refused, and_then}
 use Rattle.midicsv.specs.Field.{Field}
 use Rattle.midicsv.specs.Table.{Column, range, Tail, none, one_text, sized, RecordName, shape}
@@ -9,17 +9,11 @@ use Rattle.midicsv.specs.Names.{name_from}
 use Rattle.midicsv.specs.ReadField.{read_field}
 use Rattle.midicsv.specs.Result.{Result, good, bad}
 use Rattle.midicsv.specs.ReadRecord.{size_of, read_column, read_text, with_values}
-use Rattle.midicsv_scan.specs.declared.FieldStep.{FieldStep}
-use Rattle.midicsv_scan.specs.declared.FieldStep.TheVariants.{Number, Minus, Name, Quoted, BadField}
 use Rattle.midicsv_record.specs.Row.{body_in, record_in}
-use Rattle.midicsv_record.specs.declared.CellStep.{CellStep}
-use Rattle.midicsv_record.specs.declared.CellStep.TheVariants.{Cell, NoCell}
-use Rattle.midicsv_record.specs.declared.ColumnsStep.{ColumnsStep}
-use Rattle.midicsv_record.specs.declared.ColumnsStep.TheVariants.{Five, Misfit}
-use Rattle.midicsv_record.specs.declared.TailStep.{TailStep}
-use Rattle.midicsv_record.specs.declared.TailStep.TheVariants.{Start, Unfit}
-use Rattle.midicsv_record.specs.declared.RowStep.{RowStep}
-use Rattle.midicsv_record.specs.declared.RowStep.TheVariants.{Taken, Faulty}
+use Rattle.midicsv_record.specs.declared.Cell.{Cell}
+use Rattle.midicsv_record.specs.declared.Columns.{Columns}
+use Rattle.midicsv_record.specs.declared.BodyPlace.{BodyPlace}
+use Rattle.midicsv_record.specs.declared.Row.{Row}
 
 -- ---- the parts of a line, of what stands from a comma on
 
@@ -98,38 +92,25 @@ Agrees (refused n p) m = Refused m
 
 -- ---- what the answers of the code say, of a line l
 
--- the place after a field: its comma's, or the line's end
-unfoldable pub place_after : FieldStep → ℕ
-place_after (Number value next) = next
-place_after (Minus value next) = next
-place_after (Name start end next) = next
-place_after (Quoted start next) = next
-place_after BadField = 0
-
 -- a number and what follows its field
-unfoldable pub cell_as : List ℕ → CellStep → Outcome ℕ
-cell_as l (Cell value next) = ok value (drop next l)
-cell_as l NoCell = refused 22 0
-
--- the first of the columns; 0 where there is none, and then no field is read
-unfoldable pub first_after : List Column → List ℕ → Outcome ℕ
-first_after [] r = ok 0 r
-first_after (c ∷ cs) r = column_after c r
+unfoldable pub cell_as : List ℕ → Option Cell → Outcome ℕ
+cell_as l (Some c) = ok c.value (drop c.next l)
+cell_as l None = refused 22 0
 
 -- as many numbers as there are columns, and what follows their fields
-unfoldable pub columns_as : List Column → List ℕ → ColumnsStep → Outcome (List ℕ)
-columns_as cs l (Five a b c d e next) = ok (take (length cs) (a ∷ b ∷ c ∷ d ∷ e ∷ [])) (drop next l)
-columns_as cs l Misfit = refused 22 0
+unfoldable pub columns_as : List Column → List ℕ → Option Columns → Outcome (List ℕ)
+columns_as cs l (Some c) = ok (take (length cs) c.values) (drop c.next l)
+columns_as cs l None = refused 22 0
 
 -- the Text or the Data by their place
-unfoldable pub tail_step_as : Tail → List ℕ → TailStep → Outcome (List ℕ)
-tail_step_as t l (Start start len) = ok (body_in t l start len) []
-tail_step_as t l Unfit = refused 22 0
+unfoldable pub tail_step_as : Tail → List ℕ → Option BodyPlace → Outcome (List ℕ)
+tail_step_as t l (Some b) = ok (body_in t l b.start b.len) []
+tail_step_as t l None = refused 22 0
 
 -- which lies in the line
-unfoldable pub TailInside : List ℕ → TailStep → Type 0
-TailInside l (Start start len) = (start ≤ length l) × (len ≤ length l)
-TailInside l Unfit = Unit {0}
+unfoldable pub TailInside : List ℕ → Option BodyPlace → Type 0
+TailInside l (Some b) = (b.start ≤ length l) × (b.len ≤ length l)
+TailInside l None = Unit {0}
 
 -- n Data of which the last ends the line, or a fault
 unfoldable pub DataEnd : ℕ → List ℕ → Bool → Type 0
@@ -137,11 +118,11 @@ DataEnd n r true = (d : List ℕ) × (data_after n r ≡ ok d [])
 DataEnd n r false = and_then (data_after n r) (λ d q. at_end d q) ≡ refused 22 0
 
 -- the record of a row
-unfoldable pub row_as : List ℕ → RowStep → Outcome Record
-row_as l (Taken row) = ok (record_in l row) []
-row_as l Faulty = refused 22 0
+unfoldable pub row_as : List ℕ → Option Row → Outcome Record
+row_as l (Some row) = ok (record_in l row) []
+row_as l None = refused 22 0
 
--- its name is listed, and what has a place stands in the line
-unfoldable pub RowInside : List ℕ → RowStep → Type 0
-RowInside l (Taken row) = (row.name ≤ 28) × (row.start ≤ length l) × (row.len ≤ length l)
-RowInside l Faulty = Unit {0}
+-- what has a place stands in the line
+unfoldable pub RowInside : List ℕ → Option Row → Type 0
+RowInside l (Some row) = (row.start ≤ length l) × (row.len ≤ length l)
+RowInside l None = Unit {0}

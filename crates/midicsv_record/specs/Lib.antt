@@ -1,4 +1,5 @@
 -- What the answer about a line says.
+pub mod Name
 pub mod Row
 pub mod Table
 pub mod TextState

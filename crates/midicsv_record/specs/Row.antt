@@ -1,25 +1,16 @@
 -- What the answer about a line l says: the record, its Text or Data by their place in the line.
-use Rattle.std.specs.Prelude.{ℕ, zero, suc, ◌≤◌, ◌%◌, List, [], ◌∷◌, length, get_or, take, drop, leb}
-use Rattle.event.specs.Choice.{pick}
+use Rattle.std.specs.Prelude.{ℕ, zero, suc, ◌≤◌, ◌%◌, List, [], ◌∷◌, length, take, drop, Ok, Err, Result as CodeResult}
+use Rattle.event.specs.Refusal.{number_of}
+use Rattle.event.specs.declared.refusal.Refusal.{Refusal}
 use Rattle.event.specs.Outcome.{Outcome, ok, refused}
 use Rattle.midicsv.specs.Field.{Field, num, minus, name, quoted}
-use Rattle.midicsv.specs.Table.{RecordName, end_of_file, Tail, none, one_text, sized, shape}
+use Rattle.midicsv.specs.Table.{Tail, none, one_text, sized, shape}
 use Rattle.midicsv.specs.Record.{Record}
-use Rattle.midicsv.specs.Names.{all_names}
 use Rattle.midicsv.specs.ReadField.{plain, read_field}
 use Rattle.midicsv.specs.Result.{Result, good, bad}
 use Rattle.midicsv_scan.specs.Unquoted.{unquoted}
+use Rattle.midicsv_record.specs.Name.{name_at}
 use Rattle.midicsv_record.specs.declared.Row.{Row}
-use Rattle.midicsv_record.specs.declared.LineStep.{LineStep}
-use Rattle.midicsv_record.specs.declared.LineStep.TheVariants.{Wrong, Parsed}
-
--- the code has a name as its number in the list of names, from 0
-abbrev pub name_at : ℕ → RecordName
-name_at n = get_or all_names n end_of_file
-
--- 29 and more are no name: 23
-unfoldable pub name_as : ℕ → Result RecordName
-name_as n = pick (leb n 28) (good (name_at n)) (bad 23)
 
 -- a data byte, of a field that is one
 unfoldable pub byte_in : Outcome Field → ℕ
@@ -48,7 +39,7 @@ body_in sized l start len = data_from len (drop start l)
 
 -- of the five numbers as many as the name has columns
 abbrev pub columns_in : Row → List ℕ
-columns_in r = take (length (shape (name_at r.name)).columns) (r.a ∷ r.b ∷ r.c ∷ r.d ∷ r.e ∷ [])
+columns_in r = take (length (shape (name_at r.name)).columns) r.columns
 
 -- the record that a row of the line l stands for
 abbrev pub record_in : List ℕ → Row → Record
@@ -61,11 +52,11 @@ record_in l r =
     }
 
 -- the record, or the number of the refusal
-unfoldable pub line_as : List ℕ → LineStep → Result Record
-line_as l (Wrong number) = bad number
-line_as l (Parsed r) = good (record_in l r)
+unfoldable pub line_as : List ℕ → CodeResult Row Refusal → Result Record
+line_as l (Ok r) = good (record_in l r)
+line_as l (Err e) = bad (number_of e)
 
--- the name is listed, and what has a place stands in the line
-unfoldable pub Placed : List ℕ → LineStep → Type 0
-Placed l (Wrong number) = Unit {0}
-Placed l (Parsed r) = (r.name ≤ 28) × (r.start ≤ length l) × (r.len ≤ length l)
+-- what has a place stands in the line
+unfoldable pub Placed : List ℕ → CodeResult Row Refusal → Type 0
+Placed l (Ok r) = (r.start ≤ length l) × (r.len ≤ length l)
+Placed l (Err e) = Unit {0}

@@ -1,39 +1,31 @@
--- The table of records as the code has it, by the name's number.
-use Rattle.std.specs.Prelude.{ℕ, List, [], ◌∷◌}
-use Rattle.midicsv.specs.Field.{Field}
+-- The table of records as the code has it, by the name.
+use Rattle.std.specs.Prelude.{List}
 use Rattle.midicsv.specs.Table.{Column, range, key, mode, free_type, division, Tail, none, one_text, sized, shape}
-use Rattle.midicsv.specs.Result.{Result, good}
-use Rattle.midicsv.specs.ReadRecord.{read_column}
-use Rattle.midicsv_record.specs.Row.{name_at}
+use Rattle.midicsv_record.specs.Name.{name_at}
+use Rattle.midicsv_record.specs.declared.Name.{Name}
 use Rattle.midicsv_record.specs.declared.ColumnKind.{ColumnKind}
-use Rattle.midicsv_record.specs.declared.ColumnKind.TheVariants.{Range, Key, Mode, FreeType, Division, NoColumn}
+use Rattle.midicsv_record.specs.declared.ColumnKind.TheVariants.{Range, Key, Mode, FreeType, Division}
 use Rattle.midicsv_record.specs.declared.TailKind.{TailKind}
 use Rattle.midicsv_record.specs.declared.TailKind.TheVariants.{NoTail, OneText, Sized}
 
 -- the columns of the name n
-abbrev pub columns_at : ℕ → List Column
+abbrev pub columns_at : Name → List Column
 columns_at n = (shape (name_at n)).columns
 
 -- what follows the columns of the name n
-abbrev pub tail_at : ℕ → Tail
+abbrev pub tail_at : Name → Tail
 tail_at n = (shape (name_at n)).tail
 
--- the column, where there is one
-unfoldable pub column_as : ColumnKind → List Column
-column_as (Range lo hi) = range lo hi ∷ []
-column_as Key = key ∷ []
-column_as Mode = mode ∷ []
-column_as FreeType = free_type ∷ []
-column_as Division = division ∷ []
-column_as NoColumn = []
+-- the column
+unfoldable pub column_as : ColumnKind → Column
+column_as (Range lo hi) = range lo hi
+column_as Key = key
+column_as Mode = mode
+column_as FreeType = free_type
+column_as Division = division
 
 -- nothing, a Text, or "Length, Data.."
 unfoldable pub tail_as : TailKind → Tail
 tail_as NoTail = none
 tail_as OneText = one_text
 tail_as Sized = sized
-
--- the field read by the first of the columns; 0 where there is none
-unfoldable pub read_first : List Column → Field → Result ℕ
-read_first [] f = good 0
-read_first (c ∷ cs) f = read_column c f

@@ -4,29 +4,24 @@ ghost use Rattle.midicsv.specs.Table.{one_text, sized};
 ghost use Rattle.midicsv_record.specs.Table.{tail_at};
 ghost use Rattle.midicsv_record.specs.InTurn.{last_after, tail_step_as, TailInside, DataEnd};
 
-use super::column::number_of;
-use super::in_turn::{field_after, place_after};
+use super::column::{number_in, number_of};
+use super::in_turn::field_after;
 use super::table::tail_kind;
-use super::{ColumnStep, TailKind, TailStep};
-use midicsv_scan::FieldStep;
+use super::{BodyPlace, Name, TailKind};
+use midicsv_scan::FieldAt;
 
 // A Text: the field after a comma must be quoted, and the last.
-fn text_after(line: &[u8], comma: usize) -> TailStep
+fn text_after(line: &[u8], comma: usize) -> Option<BodyPlace>
     ensures fact_1 { tail_step_as one_text line.now result ≡ last_after one_text (drop comma line.now) }
     ensures fact_2 { TailInside line.now result }
 {
-    match field_after(line, comma) {
-        FieldStep::Number { .. } => TailStep::Unfit,
-        FieldStep::Minus { .. } => TailStep::Unfit,
-        FieldStep::Name { .. } => TailStep::Unfit,
-        FieldStep::Quoted { start, next } => {
-            if next < line.len() {
-                return TailStep::Unfit;
-            }
-            TailStep::Start { start, len: 0 }
-        }
-        FieldStep::BadField => TailStep::Unfit,
+    let FieldAt::Quoted { start, next } = field_after(line, comma)? else {
+        return None;
+    };
+    if next < line.len() {
+        return None;
     }
+    Some(BodyPlace { start, len: 0 })
 }
 
 // The place after a comma, or the line's end where no comma stands.
@@ -45,55 +40,45 @@ fn are_data(line: &[u8], comma: usize, len: usize) -> bool
     ensures { DataEnd len (drop comma line.now) result }
 {
     let mut at = comma;
-    let mut left = len;
-    while 0 < left {
-        match field_after(line, at) {
-            FieldStep::Number { value, next } => {
-                if 255 < value {
-                    return false;
-                }
-                at = next;
-                left = left - 1;
-            }
-            FieldStep::Minus { .. } => return false,
-            FieldStep::Name { .. } => return false,
-            FieldStep::Quoted { .. } => return false,
-            FieldStep::BadField => return false,
+    for _ in 0..len {
+        let Some(f) = field_after(line, at) else {
+            return false;
+        };
+        if number_in(f, 0, 255).is_none() {
+            return false;
         }
+        at = f.next();
     }
     line.len() <= at
 }
 
 // Length and Data: the fields after a comma, to the last.
-fn sized_after(line: &[u8], comma: usize) -> TailStep
+fn sized_after(line: &[u8], comma: usize) -> Option<BodyPlace>
     ensures fact_1 { tail_step_as sized line.now result ≡ last_after sized (drop comma line.now) }
     ensures fact_2 { TailInside line.now result }
 {
-    let f = field_after(line, comma);
-    let ColumnStep::Value(v) = number_of(f) else {
-        return TailStep::Unfit;
-    };
-    let next = place_after(f);
+    let f = field_after(line, comma)?;
+    let v = number_of(f)?;
+    let next = f.next();
     let len = v as usize;
-    if are_data(line, next, len) {
-        let start = after_comma(line, next);
-        return TailStep::Start { start, len };
+    if !are_data(line, next, len) {
+        return None;
     }
-    TailStep::Unfit
+    let start = after_comma(line, next);
+    Some(BodyPlace { start, len })
 }
 
 // The Text or the Data of a record, of the fields after a comma, which must end the line.
-pub fn tail_after(line: &[u8], comma: usize, name: u8) -> TailStep
-    requires { name ≤ 28 }
+pub fn tail_after(line: &[u8], comma: usize, name: Name) -> Option<BodyPlace>
     ensures fact_1 { tail_step_as (tail_at name) line.now result ≡ last_after (tail_at name) (drop comma line.now) }
     ensures fact_2 { TailInside line.now result }
 {
     match tail_kind(name) {
         TailKind::NoTail => {
             if comma < line.len() {
-                return TailStep::Unfit;
+                return None;
             }
-            TailStep::Start { start: 0, len: 0 }
+            Some(BodyPlace { start: 0, len: 0 })
         }
         TailKind::OneText => text_after(line, comma),
         TailKind::Sized => sized_after(line, comma),

@@ -6,90 +6,61 @@ ghost use Rattle.midicsv.specs.ReadField.{plain};
 ghost use Rattle.midicsv.specs.Table.{range, mode, free_type, division};
 ghost use Rattle.midicsv.specs.ReadRecord.{size_of, is_free, read_signed, read_column};
 ghost use Rattle.midicsv_scan.specs.Unquoted.{unquoted};
-ghost use Rattle.midicsv_record.specs.Table.{column_as, read_first};
+ghost use Rattle.midicsv_record.specs.Table.{column_as};
 ghost use Rattle.midicsv_record.specs.Column.{field_in, value_as, Reads};
 
+use super::ColumnKind;
 use super::text::is_word;
-use super::{ColumnKind, ColumnStep};
-use midicsv_scan::FieldStep;
+use midicsv_scan::FieldAt;
 use smf::header::division_ok;
 
 // A number without a minus.
-pub fn number_of(f: FieldStep) -> ColumnStep
+pub fn number_of(f: FieldAt) -> Option<u32>
     ensures { Reads size_of f result }
 {
     match f {
-        FieldStep::Number { value, .. } => ColumnStep::Value(value),
-        FieldStep::Minus { .. } => ColumnStep::OutOfRange,
-        FieldStep::Name { .. } => ColumnStep::OutOfRange,
-        FieldStep::Quoted { .. } => ColumnStep::OutOfRange,
-        FieldStep::BadField => ColumnStep::OutOfRange,
+        FieldAt::Number { value, .. } => Some(value),
+        _ => None,
     }
 }
 
 // A number from lo to hi.
-pub fn number_in(f: FieldStep, lo: u32, hi: u32) -> ColumnStep
+pub fn number_in(f: FieldAt, lo: u32, hi: u32) -> Option<u32>
     ensures { Reads (read_column (range lo hi)) f result }
 {
-    let ColumnStep::Value(value) = number_of(f) else {
-        return ColumnStep::OutOfRange;
-    };
-    if value < lo {
-        return ColumnStep::OutOfRange;
-    }
-    if hi < value {
-        return ColumnStep::OutOfRange;
-    }
-    ColumnStep::Value(value)
+    let value = number_of(f)?;
+    (lo <= value && value <= hi).then_some(value)
 }
 
 // A number from -least to most; one below 0 is kept as `all` more.
-fn signed_of(f: FieldStep, most: u32, least: u32, all: u32) -> ColumnStep
+fn signed_of(f: FieldAt, most: u32, least: u32, all: u32) -> Option<u32>
     requires { least ≤ all }
     ensures { Reads (read_signed most least all) f result }
 {
     match f {
-        FieldStep::Number { value, .. } => {
-            if most < value {
-                return ColumnStep::OutOfRange;
-            }
-            ColumnStep::Value(value)
-        }
-        FieldStep::Minus { value, .. } => {
-            if least < value {
-                return ColumnStep::OutOfRange;
-            }
-            ColumnStep::Value(all - value)
-        }
-        FieldStep::Name { .. } => ColumnStep::OutOfRange,
-        FieldStep::Quoted { .. } => ColumnStep::OutOfRange,
-        FieldStep::BadField => ColumnStep::OutOfRange,
+        FieldAt::Number { value, .. } if value <= most => Some(value),
+        FieldAt::Minus { value, .. } if value <= least => Some(all - value),
+        _ => None,
     }
 }
 
 // "major" (0) or "minor" (1).
-fn mode_at(line: &[u8], start: usize) -> ColumnStep
+fn mode_at(line: &[u8], start: usize) -> Option<u32>
     ensures { value_as result ≡ read_column mode (quoted (unquoted (drop start line.now) plain)) }
 {
     if is_word(line, start, b"major") {
-        return ColumnStep::Value(0);
+        return Some(0);
     }
-    if is_word(line, start, b"minor") {
-        return ColumnStep::Value(1);
-    }
-    ColumnStep::OutOfRange
+    is_word(line, start, b"minor").then_some(1)
 }
 
 // A mode, which is a quoted text.
-fn mode_of(line: &[u8], f: FieldStep) -> ColumnStep
+fn mode_of(line: &[u8], f: FieldAt) -> Option<u32>
     ensures { value_as result ≡ read_column mode (field_in line.now f) }
 {
     match f {
-        FieldStep::Number { .. } => ColumnStep::OutOfRange,
-        FieldStep::Minus { .. } => ColumnStep::OutOfRange,
-        FieldStep::Name { .. } => ColumnStep::OutOfRange,
-        FieldStep::Quoted { start, .. } => mode_at(line, start),
-        FieldStep::BadField => ColumnStep::OutOfRange,
+        FieldAt::Quoted { start, .. } => mode_at(line, start),
+        _ => None,
     }
 }
 
@@ -115,34 +86,24 @@ fn is_free(t: u32) -> bool
 }
 
 // A meta type without a name of its own.
-fn free_type(f: FieldStep) -> ColumnStep
+fn free_type(f: FieldAt) -> Option<u32>
     ensures { Reads (read_column free_type) f result }
 {
-    let ColumnStep::Value(value) = number_of(f) else {
-        return ColumnStep::OutOfRange;
-    };
-    if is_free(value) {
-        return ColumnStep::Value(value);
-    }
-    ColumnStep::OutOfRange
+    let value = number_of(f)?;
+    is_free(value).then_some(value)
 }
 
 // A division, as its 16 bits in the file.
-fn division_of(f: FieldStep) -> ColumnStep
+fn division_of(f: FieldAt) -> Option<u32>
     ensures { Reads (read_column division) f result }
 {
-    let ColumnStep::Value(bits) = signed_of(f, 32767, 32768, 65536) else {
-        return ColumnStep::OutOfRange;
-    };
-    if division_ok(bits) {
-        return ColumnStep::Value(bits);
-    }
-    ColumnStep::OutOfRange
+    let bits = signed_of(f, 32767, 32768, 65536)?;
+    division_ok(bits).then_some(bits)
 }
 
 // The number of a field, by its column.
-pub fn value_in(line: &[u8], f: FieldStep, column: ColumnKind) -> ColumnStep
-    ensures { value_as result ≡ read_first (column_as column) (field_in line.now f) }
+pub fn value_in(line: &[u8], f: FieldAt, column: ColumnKind) -> Option<u32>
+    ensures { value_as result ≡ read_column (column_as column) (field_in line.now f) }
 {
     match column {
         ColumnKind::Range { lo, hi } => number_in(f, lo, hi),
@@ -150,6 +111,5 @@ pub fn value_in(line: &[u8], f: FieldStep, column: ColumnKind) -> ColumnStep
         ColumnKind::Mode => mode_of(line, f),
         ColumnKind::FreeType => free_type(f),
         ColumnKind::Division => division_of(f),
-        ColumnKind::NoColumn => ColumnStep::Value(0),
     }
 }

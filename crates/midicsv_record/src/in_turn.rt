@@ -1,80 +1,48 @@
 // The fields of a line in turn, each from the comma before it on.
 ghost use Rattle.std.specs.Prelude.{◌≡◌, ◌≤◌, drop};
-ghost use Rattle.midicsv_scan.specs.FieldStep.{field_as, Within};
-ghost use Rattle.midicsv_record.specs.Table.{columns_at};
-ghost use Rattle.midicsv_record.specs.InTurn.{field_after, columns_after, place_after, cell_as, first_after, columns_as};
+ghost use Rattle.midicsv_scan.specs.FieldAt.{field_as, Within};
+ghost use Rattle.midicsv_record.specs.Table.{columns_at, column_as};
+ghost use Rattle.midicsv_record.specs.InTurn.{field_after, column_after, columns_after, cell_as, columns_as};
 
 use super::column::value_in;
-use super::table::{column_at, column_count};
-use super::{CellStep, ColumnStep, ColumnsStep};
-use midicsv_scan::FieldStep;
+use super::table::columns;
+use super::{Cell, ColumnKind, Columns, Name};
+use midicsv_scan::FieldAt;
 use midicsv_scan::field::field_at;
 
 // The field after the comma at a place; none where the line ends there.
-pub fn field_after(line: &[u8], comma: usize) -> FieldStep
+pub fn field_after(line: &[u8], comma: usize) -> Option<FieldAt>
     ensures fact_1 { field_as line.now result ≡ field_after (drop comma line.now) }
     ensures fact_2 { Within line.now comma result }
 {
     if line.len() <= comma {
-        return FieldStep::BadField;
+        return None;
     }
     field_at(line, comma + 1)
 }
 
-// The place after a field: that of its comma, or the line's end.
-pub fn place_after(f: FieldStep) -> usize
-    ensures { result ≡ place_after f }
+// The number of a column, of the field after a comma.
+fn column_after(line: &[u8], comma: usize, column: ColumnKind) -> Option<Cell>
+    ensures { cell_as line.now result ≡ column_after (column_as column) (drop comma line.now) }
 {
-    match f {
-        FieldStep::Number { next, .. } => next,
-        FieldStep::Minus { next, .. } => next,
-        FieldStep::Name { next, .. } => next,
-        FieldStep::Quoted { next, .. } => next,
-        FieldStep::BadField => 0,
-    }
-}
-
-// The number of the column so numbered from 0, of the field after a comma; 0 past the last column, and then no field is read.
-fn column_after(line: &[u8], comma: usize, name: u8, i: usize) -> CellStep
-    requires { name ≤ 28 }
-    ensures { cell_as line.now result ≡ first_after (drop i (columns_at name)) (drop comma line.now) }
-{
-    if column_count(name) <= i {
-        return CellStep::Cell(0, comma);
-    }
-    let f = field_after(line, comma);
-    let ColumnStep::Value(value) = value_in(line, f, column_at(name, i)) else {
-        return CellStep::NoCell;
-    };
-    CellStep::Cell(value, place_after(f))
+    let f = field_after(line, comma)?;
+    let value = value_in(line, f, column)?;
+    Some(Cell {
+        value,
+        next: f.next(),
+    })
 }
 
 // The numbers of all columns, of the fields after a comma; no record has more than five.
-pub fn columns_after(line: &[u8], comma: usize, name: u8) -> ColumnsStep
-    requires { name ≤ 28 }
+pub fn columns_after(line: &[u8], comma: usize, name: Name) -> Option<Columns>
     ensures { columns_as (columns_at name) line.now result ≡ columns_after (columns_at name) (drop comma line.now) }
 {
-    let CellStep::Cell(a, first) = column_after(line, comma, name, 0) else {
-        return ColumnsStep::Misfit;
-    };
-    let CellStep::Cell(b, second) = column_after(line, first, name, 1) else {
-        return ColumnsStep::Misfit;
-    };
-    let CellStep::Cell(c, third) = column_after(line, second, name, 2) else {
-        return ColumnsStep::Misfit;
-    };
-    let CellStep::Cell(d, fourth) = column_after(line, third, name, 3) else {
-        return ColumnsStep::Misfit;
-    };
-    let CellStep::Cell(e, next) = column_after(line, fourth, name, 4) else {
-        return ColumnsStep::Misfit;
-    };
-    ColumnsStep::Five {
-        a,
-        b,
-        c,
-        d,
-        e,
-        next,
+    let mut values = [0; 5];
+    let mut next = comma;
+    for (i, column) in columns(name).iter().enumerate() {
+        let cell = column_after(line, next, *column)?;
+        values[i] = cell.value;
+        next = cell.next;
     }
+    Some(Columns { values, next })
 }

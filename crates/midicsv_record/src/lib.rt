@@ -1,7 +1,7 @@
 // A line's record: its name, its numbers, and where its Text or Data stand.
 #![tactic(auto)]
 
-mod name; // name.rt: the names of records
+mod names; // names.rt: the names of records
 mod table; // table.rt: the columns and the tail of each record
 pub mod text; // text.rt: a quoted text beside a word
 mod column; // column.rt: fields beside their columns
@@ -11,30 +11,53 @@ mod record; // record.rt: the record of a line that has no fault
 mod refusal; // refusal.rt: the refusal of a line that has one
 pub mod line; // line.rt: the record of a line, or its refusal
 
-// A record: its name by its number in the list of names, Track, Time, up to five numbers (0 past
-// those that the name has), and where in the line its Text begins, after the quote, or its Data;
-// len is the number of the Data.
+// The names of records, in the order of the list of names.
+#[derive(Clone, Copy, PartialEq, Eq)]
+pub enum Name {
+    Header,
+    StartTrack,
+    EndOfFile,
+    NoteOff,
+    NoteOn,
+    PolyAftertouch,
+    Control,
+    Program,
+    ChannelAftertouch,
+    PitchBend,
+    SystemExclusive,
+    SystemExclusivePacket,
+    SequenceNumber,
+    Text,
+    Copyright,
+    Title,
+    InstrumentName,
+    Lyric,
+    Marker,
+    CuePoint,
+    ChannelPrefix,
+    MidiPort,
+    EndTrack,
+    Tempo,
+    SmpteOffset,
+    TimeSignature,
+    KeySignature,
+    SequencerSpecific,
+    UnknownMetaEvent,
+}
+
+// A record: its name, Track, Time, up to five numbers (0 past those that the name has), and where in
+// the line its Text begins, after the quote, or its Data; len is the number of the Data.
 #[derive(Clone, Copy)]
 pub struct Row {
-    pub name: u8,
+    pub name: Name,
     pub track: u32,
     pub time: u32,
-    pub a: u32,
-    pub b: u32,
-    pub c: u32,
-    pub d: u32,
-    pub e: u32,
+    pub columns: [u32; 5],
     pub start: usize,
     pub len: usize,
 }
 
-#[derive(Clone, Copy)]
-pub enum LineStep {
-    Wrong { number: u8 },
-    Parsed(Row),
-}
-
-// A column of the table; NoColumn past the last of a name.
+// A column of the table.
 #[derive(Clone, Copy)]
 pub enum ColumnKind {
     Range { lo: u32, hi: u32 },
@@ -42,7 +65,6 @@ pub enum ColumnKind {
     Mode,
     FreeType,
     Division,
-    NoColumn,
 }
 
 // What follows the columns: nothing, a Text, or Length and Data.
@@ -72,51 +94,23 @@ pub enum TextStep {
     Closed,
 }
 
-// The number of a field, or 25.
+// The number of a column, and the place after its field.
 #[derive(Clone, Copy)]
-pub enum ColumnStep {
-    Value(u32),
-    OutOfRange,
+struct Cell {
+    value: u32,
+    next: usize,
 }
 
-// The number of a column and the place after its field; or a fault.
+// The numbers of a record's columns, 0 past the last, and the place after their fields.
 #[derive(Clone, Copy)]
-enum CellStep {
-    Cell(u32, usize),
-    NoCell,
+pub struct Columns {
+    pub values: [u32; 5],
+    pub next: usize,
 }
 
-// The numbers of a record's columns, 0 past the last, and the place after their fields; or a fault.
+// Where the Text or the Data begin, and how many Data there are.
 #[derive(Clone, Copy)]
-pub enum ColumnsStep {
-    Five {
-        a: u32,
-        b: u32,
-        c: u32,
-        d: u32,
-        e: u32,
-        next: usize,
-    },
-    Misfit,
-}
-
-// That a line has as many fields as its name and its Length want; or 24 or 25.
-#[derive(Clone, Copy)]
-enum SizeStep {
-    Fits,
-    Off(u8),
-}
-
-// Where the Text or the Data begin, and how many Data there are; or a fault.
-#[derive(Clone, Copy)]
-pub enum TailStep {
-    Start { start: usize, len: usize },
-    Unfit,
-}
-
-// The record of a line, or that the line has a fault.
-#[derive(Clone, Copy)]
-enum RowStep {
-    Taken(Row),
-    Faulty,
+pub struct BodyPlace {
+    pub start: usize,
+    pub len: usize,
 }

@@ -1,100 +1,70 @@
 // The record of a line that has no fault, its fields read in turn.
 ghost use Rattle.std.specs.Prelude.{◌≡◌, ◌≤◌, drop};
-ghost use Rattle.midicsv_record.specs.Row.{name_at};
-ghost use Rattle.midicsv_record.specs.Line.{Together};
+ghost use Rattle.midicsv_record.specs.Name.{name_at};
+ghost use Rattle.midicsv.specs.ReadRecord.{together};
 ghost use Rattle.midicsv_record.specs.InTurn.{named_after, record_after, record_in_turn, row_as, RowInside};
 
 use super::body::tail_after;
 use super::column::number_in;
-use super::in_turn::{columns_after, field_after, place_after};
-use super::name::find_name;
-use super::{ColumnStep, ColumnsStep, Row, RowStep, TailStep};
-use midicsv_scan::FieldStep;
+use super::in_turn::{columns_after, field_after};
+use super::names::name_of;
+use super::{Name, Row};
 use midicsv_scan::field::field_at;
 
+// The greatest Track and Time.
+const MOST_TRACK: u32 = 65535;
+
+const MOST_TIME: u32 = 4294967295;
+
 // Whether the numbers go together: a Header of format 0 has one track.
-fn is_together(name: u8, a: u32, b: u32) -> bool
-    requires { name ≤ 28 }
-    ensures { Together name a b result }
+fn is_together(name: Name, columns: [u32; 5]) -> bool
+    ensures { result ≡ together (name_at name) columns }
 {
-    if name != 0 {
-        return true;
+    match name {
+        Name::Header => columns[0] != 0 || columns[1] == 1,
+        _ => true,
     }
-    if a != 0 {
-        return true;
-    }
-    b == 1
 }
 
 // The record of a listed name, of the fields after the name's comma.
-fn named_row(line: &[u8], comma: usize, name: u8, track: u32, time: u32) -> RowStep
-    requires { name ≤ 28 }
+fn named_row(line: &[u8], comma: usize, name: Name, track: u32, time: u32) -> Option<Row>
     ensures fact_1 { row_as line.now result ≡ named_after track time (name_at name) (drop comma line.now) }
     ensures fact_2 { RowInside line.now result }
 {
-    let ColumnsStep::Five {
-        a,
-        b,
-        c,
-        d,
-        e,
-        next,
-    } = columns_after(line, comma, name)
-    else {
-        return RowStep::Faulty;
-    };
-    let TailStep::Start { start, len } = tail_after(line, next, name) else {
-        return RowStep::Faulty;
-    };
-    if is_together(name, a, b) {
-        return RowStep::Taken(Row {
-            name,
-            track,
-            time,
-            a,
-            b,
-            c,
-            d,
-            e,
-            start,
-            len,
-        });
+    let found = columns_after(line, comma, name)?;
+    let columns = found.values;
+    let body = tail_after(line, found.next, name)?;
+    if !is_together(name, columns) {
+        return None;
     }
-    RowStep::Faulty
+    Some(Row {
+        name,
+        track,
+        time,
+        columns,
+        start: body.start,
+        len: body.len,
+    })
 }
 
 // The record, of its name after a comma and what follows.
-fn row_after(line: &[u8], comma: usize, track: u32, time: u32) -> RowStep
+fn row_after(line: &[u8], comma: usize, track: u32, time: u32) -> Option<Row>
     ensures fact_1 { row_as line.now result ≡ record_after track time (drop comma line.now) }
     ensures fact_2 { RowInside line.now result }
 {
-    match field_after(line, comma) {
-        FieldStep::Number { .. } => RowStep::Faulty,
-        FieldStep::Minus { .. } => RowStep::Faulty,
-        FieldStep::Name { start, end, next } => {
-            let name = find_name(&line[start..end]);
-            if 28 < name {
-                return RowStep::Faulty;
-            }
-            named_row(line, next, name, track, time)
-        }
-        FieldStep::Quoted { .. } => RowStep::Faulty,
-        FieldStep::BadField => RowStep::Faulty,
-    }
+    let f = field_after(line, comma)?;
+    let name = name_of(line, f)?;
+    named_row(line, f.next(), name, track, time)
 }
 
 // The record of a line: Track, Time, name, and the fields of the name.
-pub fn row_in_turn(line: &[u8]) -> RowStep
+pub fn row_in_turn(line: &[u8]) -> Option<Row>
     ensures fact_1 { row_as line.now result ≡ record_in_turn line.now }
     ensures fact_2 { RowInside line.now result }
 {
-    let first = field_at(line, 0);
-    let ColumnStep::Value(track) = number_in(first, 0, 65535) else {
-        return RowStep::Faulty;
-    };
-    let second = field_after(line, place_after(first));
-    let ColumnStep::Value(time) = number_in(second, 0, 4294967295) else {
-        return RowStep::Faulty;
-    };
-    row_after(line, place_after(second), track, time)
+    let first = field_at(line, 0)?;
+    let track = number_in(first, 0, MOST_TRACK)?;
+    let second = field_after(line, first.next())?;
+    let time = number_in(second, 0, MOST_TIME)?;
+    row_after(line, second.next(), track, time)
 }

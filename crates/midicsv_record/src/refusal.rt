@@ -1,99 +1,91 @@
 // The refusal of a line that has a fault, by the tests in the order of document 01: 22, 24, 23, 24 with the Length's 25, 25.
-ghost use Rattle.std.specs.Prelude.{◌≡◌, ◌≤◌, eqb};
+ghost use Rattle.std.specs.Prelude.{◌≡◌, ◌≤◌, eqb, Some};
+ghost use Rattle.event.specs.Refusal.{number_of};
 ghost use Rattle.midicsv.specs.Result.{good, bad, test};
 ghost use Rattle.midicsv.specs.ReadRecord.{read_line};
-ghost use Rattle.midicsv_scan.specs.FieldStep.{Counted};
-ghost use Rattle.midicsv_record.specs.Row.{name_as};
+ghost use Rattle.midicsv_scan.specs.FieldAt.{Counted};
+ghost use Rattle.midicsv_record.specs.Name.{name_as};
 ghost use Rattle.midicsv_record.specs.Column.{later_in};
 ghost use Rattle.midicsv_record.specs.Line.{Fields, size_in, size_as, named_in};
 ghost use Rattle.midicsv_record.specs.InTurn.{Refused};
-ghost use Rattle.midicsv_scan.specs.declared.FieldCount.TheVariants.{Count};
 
 use super::column::number_of;
-use super::name::find_name;
-use super::table::{column_count, tail_kind};
-use super::{ColumnStep, SizeStep, TailKind};
+use super::names::name_of;
+use super::table::{columns, tail_kind};
+use super::{Name, TailKind};
+use event::refusal::Refusal;
 use midicsv_scan::fields::{count_fields, field};
-use midicsv_scan::{FieldCount, FieldStep};
 
 // 24 where the count of fields is not the one that is wanted.
-fn size_step(count: usize, wanted: usize) -> SizeStep
+fn size_step(count: usize, wanted: usize) -> Result<(), Refusal>
     ensures { size_as result ≡ test (eqb count wanted) 24 (good 0) }
 {
-    if count == wanted {
-        return SizeStep::Fits;
+    if count != wanted {
+        return Err(Refusal::WrongFieldCount);
     }
-    SizeStep::Off(24)
+    Ok(())
 }
 
 // The count of fields beside the name's columns and tail, and the Length: 24, 25, 24.
-fn size_of(line: &[u8], count: usize, name: u8) -> SizeStep
-    requires fact_1 { name ≤ 28 }
-    requires fact_2 { Fields line.now count }
+fn size_of(line: &[u8], count: usize, name: Name) -> Result<(), Refusal>
+    requires { Fields line.now count }
     ensures { size_as result ≡ size_in name (later_in line.now) }
 {
-    let k = 3 + column_count(name);
+    let k = 3 + columns(name).len();
     match tail_kind(name) {
         TailKind::NoTail => size_step(count, k),
         TailKind::OneText => size_step(count, k + 1),
         TailKind::Sized => {
             if count <= k {
-                return SizeStep::Off(24);
+                return Err(Refusal::WrongFieldCount);
             }
-            match number_of(field(line, k)) {
-                ColumnStep::Value(v) => {
-                    let wanted = k + 1 + v as usize;
-                    size_step(count, wanted)
-                }
-                ColumnStep::OutOfRange => SizeStep::Off(25),
-            }
+            let Some(v) = field(line, k).and_then(number_of) else {
+                return Err(Refusal::FieldOutOfRange);
+            };
+            let wanted = k + 1 + v as usize;
+            size_step(count, wanted)
         }
     }
 }
 
-// A line by the number of its name: 23, the size, and else it is 25.
-fn named_refusal(line: &[u8], count: usize, name: u8) -> u8
+// A line by its name: 23 where it has none, the size, and else it is 25.
+fn named_refusal(line: &[u8], count: usize, name: Option<Name>) -> Refusal
     requires fact_1 { Fields line.now count }
     requires fact_2 { Refused (named_in line.now (name_as name)) }
-    ensures { bad result ≡ named_in line.now (name_as name) }
+    ensures { bad (number_of result) ≡ named_in line.now (name_as name) }
 {
-    if 28 < name {
-        return 23;
-    }
+    let Some(name) = name else {
+        return Refusal::UnknownRecord;
+    };
     match size_of(line, count, name) {
-        SizeStep::Fits => 25,
-        SizeStep::Off(number) => number,
+        Ok(()) => Refusal::FieldOutOfRange,
+        Err(refusal) => refusal,
     }
 }
 
 // A line of so many good fields: 24 under three, and 23 where the third is no name.
-fn counted_refusal(line: &[u8], count: usize) -> u8
-    requires fact_1 { Counted line.now (Count count) }
+fn counted_refusal(line: &[u8], count: usize) -> Refusal
+    requires fact_1 { Counted line.now (Some count) }
     requires fact_2 { Refused (read_line line.now) }
-    ensures { bad result ≡ read_line line.now }
+    ensures { bad (number_of result) ≡ read_line line.now }
 {
     if count < 3 {
-        return 24;
+        return Refusal::WrongFieldCount;
     }
-    match field(line, 2) {
-        FieldStep::Number { .. } => 23,
-        FieldStep::Minus { .. } => 23,
-        FieldStep::Name { start, end, .. } => {
-            let name = find_name(&line[start..end]);
-            named_refusal(line, count, name)
-        }
-        FieldStep::Quoted { .. } => 23,
-        FieldStep::BadField => 23,
-    }
+    let Some(third) = field(line, 2) else {
+        return Refusal::UnknownRecord;
+    };
+    let name = name_of(line, third);
+    named_refusal(line, count, name)
 }
 
-// The number of the refusal of a line that is refused.
-pub fn refusal_of(line: &[u8]) -> u8
+// The refusal of a line that is refused.
+pub fn refusal_of(line: &[u8]) -> Refusal
     requires { Refused (read_line line.now) }
-    ensures { bad result ≡ read_line line.now }
+    ensures { bad (number_of result) ≡ read_line line.now }
 {
     match count_fields(line) {
-        FieldCount::Count(count) => counted_refusal(line, count),
-        FieldCount::NoCount => 22,
+        Some(count) => counted_refusal(line, count),
+        None => Refusal::BadField,
     }
 }

@@ -11,10 +11,7 @@ use super::{TextState, TextStep};
 fn digit(c: u8) -> u32
     ensures { result ≡ c - 48 }
 {
-    if c < 48 {
-        return 0;
-    }
-    c as u32 - 48
+    u32::from(c.saturating_sub(b'0'))
 }
 
 // What the next character of a quoted text gives.
@@ -25,23 +22,23 @@ pub fn text_step(passed: TextState, c: u8) -> TextStep
 {
     match passed {
         TextState::Plain => {
-            if c == 34 {
+            if c == b'"' {
                 return TextStep::Nothing(TextState::Quote);
             }
-            if c == 92 {
+            if c == b'\\' {
                 return TextStep::Nothing(TextState::Slash);
             }
             TextStep::Byte(c, TextState::Plain)
         }
         TextState::Quote => {
-            if c == 34 {
-                return TextStep::Byte(34, TextState::Plain);
+            if c == b'"' {
+                return TextStep::Byte(b'"', TextState::Plain);
             }
             TextStep::Closed
         }
         TextState::Slash => {
-            if c == 92 {
-                return TextStep::Byte(92, TextState::Plain);
+            if c == b'\\' {
+                return TextStep::Byte(b'\\', TextState::Plain);
             }
             TextStep::Nothing(TextState::One(digit(c)))
         }
@@ -54,16 +51,12 @@ pub fn text_step(passed: TextState, c: u8) -> TextStep
 pub fn is_word(line: &[u8], start: usize, word: &[u8]) -> bool
     ensures { result ≡ same_bytes (unquoted (drop start line.now) plain) word.now }
 {
-    let mut i = start;
     let mut k = 0;
     let mut passed = TextState::Plain;
-    while i < line.len() {
-        let c = line[i];
-        i = i + 1;
-        match text_step(passed, c) {
-            TextStep::Nothing(next) => {
-                passed = next;
-            }
+    // start may lie past the end of the line
+    for i in start..line.len() {
+        match text_step(passed, line[i]) {
+            TextStep::Nothing(next) => passed = next,
             TextStep::Byte(b, next) => {
                 if word.len() <= k {
                     return false;
@@ -71,12 +64,10 @@ pub fn is_word(line: &[u8], start: usize, word: &[u8]) -> bool
                 if b != word[k] {
                     return false;
                 }
-                k = k + 1;
+                k += 1;
                 passed = next;
             }
-            TextStep::Closed => {
-                return k == word.len();
-            }
+            TextStep::Closed => return k == word.len(),
         }
     }
     k == word.len()

@@ -1,10 +1,11 @@
 use Rattle.midicsv_read.proofs.TakeLaws.{end_phase, end_few, end_unmarked, end_moved}
 use native.Mathlib.Omega.{arith}
 use mathlib.Core.Path.{sym, ◌∙◌}
+use Rattle.midicsv_read.proofs.PhaseLaws.{not_same, not_other}
 use Rattle.midicsv_read.proofs.order.take_end.Goals as goal
 
-pub returns-then-st-ne1 : goal.returns-then-st-ne1
-returns-then-st-ne1 c = let a = c.args in record { fact_1 = λ out m. end_phase m a.st out a.row out c.if-st-ne1.true; fact_2 = tt }
+pub returns-then-ne : goal.returns-then-ne
+returns-then-ne c = let a = c.args in record { fact_1 = λ out m. end_phase m a.st out a.row out (not_same a.st.phase _ c.if-ne.ensures); fact_2 = tt }
 
 pub returns-then-st : goal.returns-then-st
 returns-then-st c = let a = c.args in record { fact_1 = λ out m. end_few m a.st out a.row out c.if-st.true; fact_2 = tt }
@@ -15,4 +16,4 @@ returns-then-not-is_marked c = let a = c.args in
 
 pub returns : goal.returns
 returns c = let a = c.args in
-    record { fact_1 = λ out m. end_moved m a.st out a.row c.if-st-ne1.false c.if-st.false (sym c.is_marked.ensures ∙ c.if-not-is_marked.false); fact_2 = omega arith }
+    record { fact_1 = λ out m. end_moved m a.st out a.row (not_other a.st.phase _ c.if-ne.ensures) c.if-st.false (sym c.is_marked.ensures ∙ c.if-not-is_marked.false); fact_2 = omega arith }

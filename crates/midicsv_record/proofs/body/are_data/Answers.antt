@@ -1,53 +1,37 @@
-use mathlib.Core.Path.{refl}
+use Prim.Native.Nat.{suc, ◌+◌, ◌-◌}
+use mathlib.Core.Path.{◌≡◌}
 use native.Mathlib.Omega.{arith}
 use lib.ListN.{drop}
-use Rattle.event.specs.Outcome.{value_or}
-use Rattle.midicsv.specs.Field.{num}
-use Rattle.midicsv.specs.ReadRecord.{size_of, read_column}
-use Rattle.midicsv_scan.specs.FieldStep.{field_as}
-use Rattle.midicsv_record.specs.InTurn.{place_after, DataEnd}
-use Rattle.midicsv_record.proofs.ColumnLaws.{range_high, range_in}
-use Rattle.midicsv_record.proofs.BodyLaws.{data_on, data_off, data_done}
+use Rattle.midicsv_scan.specs.FieldAt.{field_as}
+use Rattle.midicsv_record.specs.InTurn.{DataEnd}
+use Rattle.midicsv_record.proofs.BodyLaws.{data_on, data_off, data_missing, data_done}
 use Rattle.midicsv_record.proofs.body.are_data.Goals as goal
 
-pub loop-left-init : goal.loop-left-init
-loop-left-init c = λ b d. d
+pub returns-in_default : goal.returns-in_default
+unfolding field_as
+returns-in_default c =
+    let k = c.loop in
+    let l = c.args.line.now in
+    let few : c.args.len - k.counter ≡ suc (c.args.len - (k.counter + 1)) = omega arith in
+    data_missing (DataEnd c.args.len (drop c.args.comma l)) l k.at _ (rw few at k.invariant) c.in_default.ensures.fact_1
 
-pub returns-then-value-gt255 : goal.returns-then-value-gt255
-unfolding size_of place_after value_or field_as
-returns-then-value-gt255 c =
-    let k = c.loop-left in
-    data_off (DataEnd c.args.len (drop c.args.comma c.args.line.now)) c.args.line.now k.at k.left _ _ k.invariant c.loop-left-test.true c.field_after.ensures.fact_1 c.in-Number.is (range_high 0 255 (num _) _ refl (omega arith) c.if-value-gt255.true)
+pub returns-then-is_none : goal.returns-then-is_none
+returns-then-is_none c =
+    let k = c.loop in
+    let l = c.args.line.now in
+    let few : c.args.len - k.counter ≡ suc (c.args.len - (k.counter + 1)) = omega arith in
+    data_off (DataEnd c.args.len (drop c.args.comma l)) l k.at _ (rw few at k.invariant) c.in-Some.f c.in-Some.ensures.fact_1 _ (c.number_in.ensures l) c.if-is_none.ensures
 
-pub loop-left-preserved : goal.loop-left-preserved
-unfolding size_of place_after value_or field_as
-loop-left-preserved c =
-    let k = c.loop-left in
-    data_on (DataEnd c.args.len (drop c.args.comma c.args.line.now)) c.args.line.now k.at k.left _ _ k.invariant c.loop-left-test.true c.field_after.ensures.fact_1 c.in-Number.is _ (range_in 0 255 (num _) _ refl (omega arith) c.if-value-gt255.false)
-
-pub returns-in-Minus : goal.returns-in-Minus
-unfolding read_column place_after value_or field_as
-returns-in-Minus c =
-    let k = c.loop-left in
-    data_off (DataEnd c.args.len (drop c.args.comma c.args.line.now)) c.args.line.now k.at k.left _ _ k.invariant c.loop-left-test.true c.field_after.ensures.fact_1 c.in-Minus.is refl
-
-pub returns-in-Name : goal.returns-in-Name
-unfolding read_column place_after value_or field_as
-returns-in-Name c =
-    let k = c.loop-left in
-    data_off (DataEnd c.args.len (drop c.args.comma c.args.line.now)) c.args.line.now k.at k.left _ _ k.invariant c.loop-left-test.true c.field_after.ensures.fact_1 c.in-Name.is refl
-
-pub returns-in-Quoted : goal.returns-in-Quoted
-unfolding read_column place_after value_or field_as
-returns-in-Quoted c =
-    let k = c.loop-left in
-    data_off (DataEnd c.args.len (drop c.args.comma c.args.line.now)) c.args.line.now k.at k.left _ _ k.invariant c.loop-left-test.true c.field_after.ensures.fact_1 c.in-Quoted.is refl
-
-pub returns-in-BadField : goal.returns-in-BadField
-unfolding read_column place_after value_or field_as
-returns-in-BadField c =
-    let k = c.loop-left in
-    data_off (DataEnd c.args.len (drop c.args.comma c.args.line.now)) c.args.line.now k.at k.left _ _ k.invariant c.loop-left-test.true c.field_after.ensures.fact_1 c.in-BadField.is refl
+pub loop-preserved : goal.loop-preserved
+loop-preserved c =
+    let k = c.loop in
+    let l = c.args.line.now in
+    let few : c.args.len - k.counter ≡ suc (c.args.len - (k.counter + 1)) = omega arith in
+    rw c.next-at.ensures
+    (data_on (DataEnd c.args.len (drop c.args.comma l)) l k.at _ (rw few at k.invariant) c.in-Some.f c.in-Some.ensures.fact_1 _ (c.number_in.ensures l) c.if-is_none.ensures)
 
 pub returns : goal.returns
-returns c = let k = c.loop-left in k.invariant _ (data_done _ k.at k.left c.loop-left-test.false)
+returns c =
+    let k = c.loop in
+    let none : c.args.len - k.counter ≡ 0 = omega arith in
+    k.invariant _ (rw none (data_done c.args.line.now k.at))

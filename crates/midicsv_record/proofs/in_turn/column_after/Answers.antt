@@ -1,31 +1,25 @@
-use mathlib.Core.Path.{refl}
-use Prim.Native.Nat.{◌≤◌}
-use native.Mathlib.Omega.{arith}
-use lib.ListN.{length, drop, drop_of_length-le, length-drop}
+use Rattle.std.specs.Prelude.{Some, None}
+use lib.ListN.{drop}
+use Rattle.midicsv_scan.specs.FieldAt.{field_as}
 use Rattle.midicsv_record.specs.Column.{value_as}
-use Rattle.midicsv_record.specs.Table.{columns_at}
-use Rattle.midicsv_record.specs.InTurn.{fitting, cell_as, first_after}
-use Rattle.midicsv_record.proofs.InTurnLaws.{first_fits}
+use Rattle.midicsv_record.specs.Table.{column_as}
+use Rattle.midicsv_record.specs.InTurn.{fitting, cell_as}
+use Rattle.midicsv_record.proofs.RecordLaws.{column_told}
+use Rattle.midicsv_record.proofs.InTurnLaws.{column_missing}
 use Rattle.midicsv_record.proofs.in_turn.column_after.Goals as goal
 
-pub returns-then-column_count-i : goal.returns-then-column_count-i
-unfolding cell_as first_after
-returns-then-column_count-i c =
-    let a = c.args in
-    let past : length (columns_at a.name) ≤ a.i = omega (arith, c.column_count.ensures, c.if-column_count-i.true) in
-    rw (drop_of_length-le (columns_at a.name) past) refl
+pub returns-in_err-f : goal.returns-in_err-f
+unfolding cell_as field_as
+returns-in_err-f c = rw c.from_residual.ensures (column_missing (column_as c.args.column) _ c.in_err-f.ensures.fact_1)
 
-pub returns-in_default : goal.returns-in_default
+pub returns-in_err-value : goal.returns-in_err-value
 unfolding cell_as fitting value_as
-returns-in_default c =
+returns-in_err-value c =
     let a = c.args in
-    let cs = drop a.i (columns_at a.name) in
-    first_fits cs a.line.now (drop a.comma a.line.now) _ _ _ _ (omega (arith, length-drop a.i (columns_at a.name), c.column_count.ensures, c.if-column_count-i.false)) c.column_at.ensures c.field_after-f.ensures.fact_1 c.value_in.ensures c.in_default.is
+    rw c.from_residual-in_err-value.ensures (column_told (column_as a.column) a.line.now (drop a.comma a.line.now) _ None c.in_ok-f.ensures.fact_1 c.in_err-value.ensures)
 
 pub returns : goal.returns
 unfolding cell_as fitting value_as
 returns c =
     let a = c.args in
-    let cs = drop a.i (columns_at a.name) in
-    rw c.place_after.ensures
-    (first_fits cs a.line.now (drop a.comma a.line.now) _ _ _ _ (omega (arith, length-drop a.i (columns_at a.name), c.column_count.ensures, c.if-column_count-i.false)) c.column_at.ensures c.field_after-f.ensures.fact_1 c.value_in.ensures c.in-Value.is)
+    rw c.next.ensures (column_told (column_as a.column) a.line.now (drop a.comma a.line.now) _ (Some c.in_ok-value.value) c.in_ok-f.ensures.fact_1 c.in_ok-value.ensures)

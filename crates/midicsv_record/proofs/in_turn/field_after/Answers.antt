@@ -4,7 +4,7 @@ use native.Mathlib.Omega.{arith}
 use native.Mathlib.Numerals.{add-one}
 use lib.ListN.{drop_of_length-le}
 use lib.Seq.{drop-cons}
-use Rattle.midicsv_scan.specs.FieldStep.{field_as, Within}
+use Rattle.midicsv_scan.specs.FieldAt.{field_as, Within}
 use Rattle.midicsv_record.specs.InTurn.{field_after}
 use Rattle.midicsv_scan.proofs.FieldLaws.{within_from}
 use Rattle.midicsv_record.proofs.in_turn.field_after.Goals as goal

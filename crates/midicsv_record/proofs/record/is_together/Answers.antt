@@ -1,23 +1,17 @@
-use mathlib.Core.Bool.{true}
-use mathlib.Core.List.{[], ◌∷◌}
 use Rattle.smf.specs.Piece.{tracks_fit}
 use Rattle.midicsv.specs.ReadRecord.{together}
-use Rattle.midicsv_record.specs.Row.{name_at}
-use Rattle.midicsv_record.proofs.TableLaws.{each, all_each}
-use Rattle.midicsv_record.proofs.LineLaws.{no_header}
-use native.Mathlib.Omega.{arith}
+use Rattle.midicsv_record.proofs.NameLaws.{only_header}
 use borrow.Author.Tests.{ne_eqb}
-use mathlib.Core.Path.{◌≡◌, refl}
+use mathlib.Core.Path.{refl}
 use Rattle.midicsv_record.proofs.record.is_together.Goals as goal
 
-pub returns-then-name-ne0 : goal.returns-then-name-ne0
+pub returns-then-columns-ne0 : goal.returns-then-columns-ne0
 unfolding together tracks_fit
-returns-then-name-ne0 c = λ ns. let a = c.args in no_header (name_at a.name) (a.a ∷ a.b ∷ ns) (each (λ n. together (name_at n) [] ≡ true) 1 28 a.name (omega arith) (omega (arith, c.requires)) (all_each (λ n. together (name_at n) []) 1 28 refl))
+returns-then-columns-ne0 c = rw (c.in-Header.is, ne_eqb _ 0 c.if-columns-ne0.true) refl
 
-pub returns-then-a-ne0 : goal.returns-then-a-ne0
+pub returns-else-columns-ne0 : goal.returns-else-columns-ne0
 unfolding together tracks_fit
-returns-then-a-ne0 c = λ ns. rw (c.if-name-ne0.false, ne_eqb _ 0 c.if-a-ne0.true) refl
+returns-else-columns-ne0 c = rw (c.in-Header.is, c.if-columns-ne0.false) refl
 
-pub returns : goal.returns
-unfolding together tracks_fit
-returns c = λ ns. rw (c.if-name-ne0.false, c.if-a-ne0.false) refl
+pub returns-in_default : goal.returns-in_default
+returns-in_default c = only_header c.args.name c.args.columns c.in_default.not-Header

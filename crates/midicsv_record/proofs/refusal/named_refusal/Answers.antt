@@ -4,17 +4,15 @@ use Rattle.midicsv_record.proofs.RefusalLaws.{only_range}
 use mathlib.Core.Path.{sym, ◌∙◌, ap}
 use Rattle.midicsv_record.proofs.refusal.named_refusal.Goals as goal
 
-pub returns-then-name-gt28 : goal.returns-then-name-gt28
-returns-then-name-gt28 c = name_wrong c.args.line.now c.args.name c.if-name-gt28.true
+pub returns-in_default : goal.returns-in_default
+returns-in_default c = rw c.in_default.is (name_wrong c.args.line.now)
 
-pub returns-in-Fits : goal.returns-in-Fits
+pub returns-in-Ok : goal.returns-in-Ok
 unfolding size_as
-returns-in-Fits c =
-    let a = c.args in
-    only_range a.line.now a.name _ c.if-name-gt28.false (ap size_as (sym c.in-Fits.is) ∙ c.size_of.ensures) c.requires.fact_2
+returns-in-Ok c =
+    let l = c.args.line.now in
+    rw c.in-Some.is (only_range l c.in-Some.name _ (ap size_as (sym c.in-Ok.is) ∙ c.size_of.ensures) (rw c.in-Some.is at c.requires.fact_2))
 
-pub returns-in-Off : goal.returns-in-Off
+pub returns-in-Err : goal.returns-in-Err
 unfolding size_as
-returns-in-Off c =
-    let a = c.args in
-    size_wrong a.line.now a.name _ c.if-name-gt28.false (ap size_as (sym c.in-Off.is) ∙ c.size_of.ensures)
+returns-in-Err c = rw c.in-Some.is (size_wrong c.args.line.now c.in-Some.name _ (ap size_as (sym c.in-Err.is) ∙ c.size_of.ensures))

@@ -1,12 +1,8 @@
 use Rattle.midicsv.specs.ReadRecord.{of_fields, read_line}
-use Rattle.midicsv_scan.specs.FieldStep.{Counted}
+use Rattle.midicsv_scan.specs.FieldAt.{Counted}
 use mathlib.Core.Path.{sym, ap, subst}
 use Rattle.midicsv_record.proofs.refusal.refusal_of.Goals as goal
 
-pub counted_refusal-requires : goal.counted_refusal-requires
+pub returns-in-None : goal.returns-in-None
 unfolding Counted of_fields read_line
-counted_refusal-requires c = record { fact_1 = subst (Counted c.args.line.now) c.in-Count.is c.count_fields.ensures; fact_2 = c.requires }
-
-pub returns-in-NoCount : goal.returns-in-NoCount
-unfolding Counted of_fields read_line
-returns-in-NoCount c = sym (ap of_fields (subst (Counted c.args.line.now) c.in-NoCount.is c.count_fields.ensures))
+returns-in-None c = sym (ap of_fields (subst (Counted c.args.line.now) c.in-None.is c.count_fields.ensures))

@@ -1,73 +1,54 @@
 use Prim.Native.Nat.{◌+◌, ◌<◌}
-use lib.ListN.{length, get_or}
-use Rattle.midicsv.specs.Field.{num}
+use lib.ListN.{length}
 use Rattle.midicsv.specs.Table.{none, one_text, sized}
-use Rattle.midicsv_record.specs.Row.{name_at}
 use Rattle.midicsv_record.specs.Table.{columns_at, tail_at, tail_as}
-use Rattle.midicsv_record.specs.Column.{field_in, fields_in, value_as}
+use Rattle.midicsv_record.specs.Column.{value_as}
 use Rattle.midicsv_record.specs.Line.{size_as}
-use Rattle.midicsv_record.proofs.FiveLaws.{few_columns}
-use Rattle.midicsv_record.proofs.FieldInLaws.{field_in_lem}
+use Rattle.midicsv_record.proofs.InTurnLaws.{columns_counted}
+use Rattle.midicsv_record.proofs.FieldInLaws.{number_there}
 use Rattle.midicsv_record.proofs.SizeLaws.{size_none, size_text, size_missing, size_off, size_sized}
-use native.Mathlib.Omega.{arith}
 use mathlib.Core.Path.{◌≡◌, sym, ◌∙◌, ap}
 use Rattle.midicsv_record.proofs.refusal.size_of.Goals as goal
-
-pub overflow_add-k : goal.overflow_add-k
-unfolding tail_as size_as value_as
-overflow_add-k c = record { fits = omega (arith, c.column_count-k.ensures, few_columns (name_at c.args.name)) }
-
-pub overflow_add-k-in-OneText : goal.overflow_add-k-in-OneText
-unfolding tail_as size_as value_as
-overflow_add-k-in-OneText c = record { fits = omega (arith, c.column_count-k.ensures, few_columns (name_at c.args.name)) }
 
 pub returns-then-count-k : goal.returns-then-count-k
 unfolding tail_as size_as value_as
 returns-then-count-k c =
     let a = c.args in
     let e : tail_at a.name ≡ sized = sym c.tail_kind.ensures ∙ ap tail_as c.in-Sized.is in
-    size_missing a.line.now a.count a.name c.requires.fact_2 e (rw c.column_count-k.ensures at c.if-count-k.true)
-
-pub overflow_add-wanted : goal.overflow_add-wanted
-unfolding tail_as size_as value_as
-overflow_add-wanted c = record { fits = omega (arith, c.column_count-k.ensures, few_columns (name_at c.args.name)) }
-
-pub overflow_add-wanted-in-Value : goal.overflow_add-wanted-in-Value
-unfolding tail_as size_as value_as
-overflow_add-wanted-in-Value c = record { fits = omega (arith, c.column_count-k.ensures, few_columns (name_at c.args.name)) }
+    size_missing a.line.now a.count a.name c.requires e (rw (columns_counted c.columns.result.now (columns_at c.args.name) c.columns.ensures) at c.if-count-k.true)
 
 pub returns-in-NoTail : goal.returns-in-NoTail
 unfolding tail_as size_as value_as
 returns-in-NoTail c =
     let a = c.args in
     let e : tail_at a.name ≡ none = sym c.tail_kind.ensures ∙ ap tail_as c.in-NoTail.is in
-    (rw c.column_count-k.ensures at c.size_step.ensures) ∙ size_none a.line.now a.count a.name c.requires.fact_2 e
+    (rw (columns_counted c.columns.result.now (columns_at c.args.name) c.columns.ensures) at c.size_step.ensures) ∙ size_none a.line.now a.count a.name c.requires e
 
 pub returns-in-OneText : goal.returns-in-OneText
 unfolding tail_as size_as value_as
 returns-in-OneText c =
     let a = c.args in
     let e : tail_at a.name ≡ one_text = sym c.tail_kind.ensures ∙ ap tail_as c.in-OneText.is in
-    (rw c.column_count-k.ensures at c.size_step-in-OneText.ensures) ∙ size_text a.line.now a.count a.name c.requires.fact_2 e
+    (rw (columns_counted c.columns.result.now (columns_at c.args.name) c.columns.ensures) at c.size_step-in-OneText.ensures) ∙ size_text a.line.now a.count a.name c.requires e
 
-pub returns-in-Value : goal.returns-in-Value
+pub returns-in_default : goal.returns-in_default
 unfolding tail_as size_as value_as
-returns-in-Value c =
+returns-in_default c =
     let a = c.args in
     let l = a.line.now in
-    let f = c.requires.fact_2 in
+    let f = c.requires in
     let e : tail_at a.name ≡ sized = sym c.tail_kind.ensures ∙ ap tail_as c.in-Sized.is in
-    let h : 3 + length (columns_at a.name) < a.count = rw c.column_count-k.ensures at c.if-count-k.false in
-    let x : field_in l c.field.result ≡ get_or (fields_in l) (3 + length (columns_at a.name)) (num 0) = field_in_lem l _ _ c.requires.fact_2.fields (rw c.requires.fact_2.counts h) (rw c.column_count-k.ensures at c.field.ensures) in
-    (rw c.column_count-k.ensures at c.size_step-in-Value.ensures) ∙ size_sized l a.count a.name f e h _ x _ (ap value_as (sym c.in-Value.is) ∙ c.number_of.ensures l)
+    let h : 3 + length (columns_at a.name) < a.count = rw (columns_counted c.columns.result.now (columns_at c.args.name) c.columns.ensures) at c.if-count-k.false in
+    let x = number_there l _ c.field.result c.and_then.result f.fields (rw f.counts h) (rw (columns_counted c.columns.result.now (columns_at c.args.name) c.columns.ensures) at c.field.ensures) c.and_then.ensures in
+    size_off l a.count a.name f e h (rw c.in_default.is at x)
 
-pub returns-in-OutOfRange : goal.returns-in-OutOfRange
+pub returns-in-Some : goal.returns-in-Some
 unfolding tail_as size_as value_as
-returns-in-OutOfRange c =
+returns-in-Some c =
     let a = c.args in
     let l = a.line.now in
-    let f = c.requires.fact_2 in
+    let f = c.requires in
     let e : tail_at a.name ≡ sized = sym c.tail_kind.ensures ∙ ap tail_as c.in-Sized.is in
-    let h : 3 + length (columns_at a.name) < a.count = rw c.column_count-k.ensures at c.if-count-k.false in
-    let x : field_in l c.field.result ≡ get_or (fields_in l) (3 + length (columns_at a.name)) (num 0) = field_in_lem l _ _ c.requires.fact_2.fields (rw c.requires.fact_2.counts h) (rw c.column_count-k.ensures at c.field.ensures) in
-    size_off l a.count a.name f e h _ x (ap value_as (sym c.in-OutOfRange.is) ∙ c.number_of.ensures l)
+    let h : 3 + length (columns_at a.name) < a.count = rw (columns_counted c.columns.result.now (columns_at c.args.name) c.columns.ensures) at c.if-count-k.false in
+    let x = number_there l _ c.field.result c.and_then.result f.fields (rw f.counts h) (rw (columns_counted c.columns.result.now (columns_at c.args.name) c.columns.ensures) at c.field.ensures) c.and_then.ensures in
+    (rw (columns_counted c.columns.result.now (columns_at c.args.name) c.columns.ensures) at c.size_step-in-Sized.ensures) ∙ size_sized l a.count a.name f e h _ (rw c.in-Some.is at x)

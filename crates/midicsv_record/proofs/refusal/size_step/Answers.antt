@@ -6,8 +6,8 @@ use Rattle.midicsv_record.proofs.refusal.size_step.Goals as goal
 
 pub returns-then-count-wanted : goal.returns-then-count-wanted
 unfolding size_as test
-returns-then-count-wanted c = rw (eq-eqb _ _ c.if-count-wanted.true) refl
+returns-then-count-wanted c = rw (ne_eqb _ _ c.if-count-wanted.true) refl
 
 pub returns : goal.returns
 unfolding size_as test
-returns c = rw (ne_eqb _ _ c.if-count-wanted.false) refl
+returns c = rw (eq-eqb _ _ c.if-count-wanted.false) refl
