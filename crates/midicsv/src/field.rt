@@ -7,11 +7,11 @@ ghost use Rattle.midicsv.specs.Code.Form.{form_of};
 ghost use Rattle.midicsv.specs.Table.{sized};
 ghost use Rattle.midicsv.specs.Record.{data_fields, tail_fields};
 
-use super::spell::put_cell_text;
-use event_write::bytes::put_byte;
+use super::spell::{put_cell_text, put_octal};
+use event_write::bytes::{put_byte, put_bytes};
 
 // The quote, which is written twice in a text.
-const DOUBLED: u8 = 34;
+const DOUBLED: u8 = b'"';
 
 // Numbers below it have one digit.
 const TEN: u32 = 10;
@@ -22,45 +22,32 @@ pub fn put_decimal(out: &mut [u8], at: usize, n: u32) -> usize
     ensures { Written out.old at (decimal n) out.new result }
 {
     if n < TEN {
-        return put_byte(out, at, 48 + (n % 10) as u8);
+        return put_byte(out, at, b'0' + (n % 10) as u8);
     }
     let m = put_decimal(out, at, n / 10);
-    put_byte(out, m, 48 + (n % 10) as u8)
+    put_byte(out, m, b'0' + (n % 10) as u8)
 }
 
 // Whether a byte of a text is written in octal.
+#[tactic(auto, unfolding(crate::specs::Field::in_octal))]
 fn in_octal(c: u8) -> bool
     ensures { result ≡ in_octal c }
 {
-    if c < 32 {
-        return true;
-    }
-    if c < 127 {
-        return false;
-    }
-    c <= 160
+    matches!(c, 0..=31 | 127..=160)
 }
 
 // A byte of a text between its quotes.
+#[tactic(auto, using(std::proofs::lemmas::Bool::Decides::nat_tests), unfolding(crate::specs::Field::escape, crate::specs::Spell::octal, event::specs::Choice::pick))]
 fn put_escaped(out: &mut [u8], at: usize, c: u8) -> usize
     requires { at < 2 ^ 47 }
     ensures { Written out.old at (escape c) out.new result }
 {
-    if c == DOUBLED {
-        let a = put_byte(out, at, 34);
-        return put_byte(out, a, 34);
+    match c {
+        DOUBLED => put_bytes(out, at, b"\"\""),
+        b'\\' => put_bytes(out, at, b"\\\\"),
+        _ if in_octal(c) => put_octal(out, at, c),
+        _ => put_byte(out, at, c),
     }
-    if c == 92 {
-        let a = put_byte(out, at, 92);
-        return put_byte(out, a, 92);
-    }
-    if in_octal(c) {
-        let a = put_byte(out, at, 92);
-        let b = put_byte(out, a, 48 + c / 64);
-        let d = put_byte(out, b, 48 + c / 8 % 8);
-        return put_byte(out, d, 48 + c % 8);
-    }
-    put_byte(out, at, c)
 }
 
 // A text in its quotes, as a text has it.
@@ -69,25 +56,23 @@ fn put_text(out: &mut [u8], at: usize, text: &[u8]) -> usize
     requires fact_2 { length text.now < 2 ^ 42 }
     ensures { Written out.old at (quote as_text text.now) out.new result }
 {
-    let mut next = put_byte(out, at, 34);
-    let mut i = 0;
-    while i < text.len() {
-        next = put_escaped(out, next, text[i]);
-        i = i + 1;
+    let mut next = put_byte(out, at, b'"');
+    for c in text {
+        next = put_escaped(out, next, *c);
     }
-    put_byte(out, next, 34)
+    put_byte(out, next, b'"')
 }
 
 // What stands between two fields: a comma, and in a text a space.
+#[tactic(auto, unfolding(crate::specs::Show::gap, crate::specs::Code::Form::form_of))]
 pub fn put_comma(out: &mut [u8], at: usize, sheet: bool) -> usize
     requires { at < 2 ^ 47 }
     ensures { Written out.old at (gap (form_of sheet)) out.new result }
 {
-    let a = put_byte(out, at, 44);
     if sheet {
-        return a;
+        return put_byte(out, at, b',');
     }
-    put_byte(out, a, 32)
+    put_bytes(out, at, b", ")
 }
 
 // A further number of a record.
@@ -119,10 +104,8 @@ fn put_data(out: &mut [u8], at: usize, body: &[u8], sheet: bool) -> usize
     ensures { Written out.old at (further (form_of sheet) (data_fields body.now)) out.new result }
 {
     let mut next = at;
-    let mut i = 0;
-    while i < body.len() {
-        next = put_number_field(out, next, body[i] as u32, sheet);
-        i = i + 1;
+    for b in body {
+        next = put_number_field(out, next, *b as u32, sheet);
     }
     next
 }

@@ -1,22 +1,20 @@
-use Rattle.event_write.proofs.WriteLaws.{all_remains, less_remains, none_remains}
+use Rattle.std.proofs.Common.{arith}
+use Rattle.event_write.proofs.WriteLaws.{all_remains, go_on_lem, done}
 use Rattle.midicsv.specs.Code.Form.{form_of}
 use Rattle.midicsv.proofs.FieldLaws.{data_more, data_end, data_length}
-use native.Mathlib.Omega.{arith}
-use mathlib.Core.Path.{refl, ◌∙◌}
-use borrow.Author.Rules.{rules}
 use Rattle.midicsv.proofs.field.put_data.Goals as goal
 
-pub loop-i-init : goal.loop-i-init
-loop-i-init c = (omega arith, refl, all_remains _ _ _)
+pub loop-b-init : goal.loop-b-init
+loop-b-init c = all_remains _ _ _
 
 pub put_number_field-next-requires : goal.put_number_field-next-requires
-put_number_field-next-requires c = omega (arith, c.loop-i.invariant.2.place, data_length (form_of c.args.sheet) c.args.body.now, c.requires.fact_1, c.requires.fact_2)
+put_number_field-next-requires c = omega (arith, c.loop-b.invariant.place, data_length (form_of c.args.sheet) c.args.body.now)
 
-pub loop-i-preserved : goal.loop-i-preserved
-loop-i-preserved c =
-    let l = c.loop-i in
+pub loop-b-preserved : goal.loop-b-preserved
+loop-b-preserved c =
     let a = c.args in
-    (search rules, c.put_number_field-next.auto.out ∙ l.invariant.1, less_remains (rw (data_more (form_of a.sheet) a.body.now l.i c.loop-i-test.true) at l.invariant.2) c.put_number_field-next.ensures)
+    go_on_lem _ _ _ c.loop-b.invariant (data_more (form_of a.sheet) a.body.now c.loop-b.b-index c.loop-b-test.true) c.put_number_field-next.ensures
 
 pub returns : goal.returns
-returns c = none_remains (rw (data_end (form_of c.args.sheet) c.args.body.now c.loop-i.i c.loop-i-test.false) at c.loop-i.invariant.2)
+returns c =
+    let a = c.args in done _ c.loop-b.invariant (data_end (form_of a.sheet) a.body.now c.loop-b.b-index c.loop-b-test.false)
