@@ -97,14 +97,14 @@ pub fn put_text_field(out: &mut [u8], at: usize, text: &[u8], sheet: bool) -> us
     put_text(out, a, text)
 }
 
-// Data bytes, a field each.
-fn put_data(out: &mut [u8], at: usize, body: &[u8], sheet: bool) -> usize
+// Bytes, a field each.
+pub fn put_byte_fields(out: &mut [u8], at: usize, values: &[u8], sheet: bool) -> usize
     requires fact_1 { at < 2 ^ 44 }
-    requires fact_2 { length body.now < 2 ^ 32 }
-    ensures { Written out.old at (further (form_of sheet) (data_fields body.now)) out.new result }
+    requires fact_2 { length values.now < 2 ^ 32 }
+    ensures { Written out.old at (further (form_of sheet) (data_fields values.now)) out.new result }
 {
     let mut next = at;
-    for b in body {
+    for b in values {
         next = put_number_field(out, next, *b as u32, sheet);
     }
     next
@@ -117,5 +117,5 @@ pub fn put_sized(out: &mut [u8], at: usize, body: &[u8], sheet: bool) -> usize
     ensures { Written out.old at (further (form_of sheet) (tail_fields sized body.now)) out.new result }
 {
     let a = put_number_field(out, at, body.len() as u32, sheet);
-    put_data(out, a, body, sheet)
+    put_byte_fields(out, a, body, sheet)
 }

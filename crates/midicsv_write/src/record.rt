@@ -10,9 +10,13 @@ ghost use Rattle.midicsv.specs.Record.{signed_field, column_field};
 ghost use Rattle.midicsv.specs.Text.{mark, event_record};
 ghost use Rattle.midicsv_write.specs.Line.{event_from, column_fields, column_count, body_fields, line, header_for, header_start};
 
+use event::number::event_data;
 use event::{EventKind, Time};
 use event_write::bytes::{put_byte, put_bytes};
-use midicsv::field::{put_comma, put_decimal, put_number_field, put_sized, put_text_field};
+use midicsv::field::{
+    put_byte_fields, put_comma, put_decimal, put_number_field, put_sized, put_text_field,
+};
+use midicsv::name::put_event_name;
 
 // A number from what it is in a file: from `first` on it is below 0, and `all` more.
 fn put_signed_field(out: &mut [u8], at: usize, n: u32, first: u32, all: u32, sheet: bool) -> usize
@@ -24,7 +28,7 @@ fn put_signed_field(out: &mut [u8], at: usize, n: u32, first: u32, all: u32, she
         return put_number_field(out, at, n, sheet);
     }
     let a = put_comma(out, at, sheet);
-    let b = put_byte(out, a, 45);
+    let b = put_byte(out, a, b'-');
     put_decimal(out, b, all - n)
 }
 
@@ -40,76 +44,47 @@ fn put_mode_field(out: &mut [u8], at: usize, minor: u8, sheet: bool) -> usize
     put_bytes(out, a, b"\"minor\"")
 }
 
-// Two, three and four numbers of a record.
-fn put_two_fields(out: &mut [u8], at: usize, a: u32, b: u32, sheet: bool) -> usize
-    requires { at < 2 ^ 45 }
-    ensures { Written out.old at (further (form_of sheet) (num a ∷ num b ∷ [])) out.new result }
-{
-    let p = put_number_field(out, at, a, sheet);
-    put_number_field(out, p, b, sheet)
-}
-
-fn put_three_fields(out: &mut [u8], at: usize, a: u32, b: u32, c: u32, sheet: bool) -> usize
-    requires { at < 2 ^ 44 }
-    ensures { Written out.old at (further (form_of sheet) (num a ∷ num b ∷ num c ∷ [])) out.new result }
-{
-    let p = put_number_field(out, at, a, sheet);
-    put_two_fields(out, p, b, c, sheet)
-}
-
-fn put_four_fields(out: &mut [u8], at: usize, a: u32, b: u32, c: u32, d: u32, sheet: bool) -> usize
-    requires { at < 2 ^ 43 }
-    ensures { Written out.old at (further (form_of sheet) (num a ∷ num b ∷ num c ∷ num d ∷ [])) out.new result }
-{
-    let p = put_number_field(out, at, a, sheet);
-    put_three_fields(out, p, b, c, d, sheet)
-}
-
 // The columns of an event's record, of which there are at most two; data play no part in them.
+#[tactic(auto, unfolding(event::specs::Step::kind_from, midicsv::specs::Record::name_of, midicsv::specs::Record::values_of, midicsv::specs::Record::fields_of, midicsv::specs::Record::column_field, midicsv::specs::Record::tail_fields, midicsv::specs::Record::data_fields, midicsv::specs::Table::event_shape, midicsv::specs::Show::further))]
 fn put_few_columns(out: &mut [u8], at: usize, kind: EventKind, sheet: bool) -> usize
     requires fact_1 { at < 2 ^ 42 }
     requires fact_2 { column_count kind ≤ 2 }
     ensures { Written out.old at (further (form_of sheet) (column_fields (kind_from [] kind))) out.new result }
 {
     match kind {
-        EventKind::Program { channel, number } => put_two_fields(
+        EventKind::Program { channel, number } => put_byte_fields(
             out,
             at,
-            channel as u32,
-            number as u32,
+            &[channel, number],
             sheet,
         ),
-        EventKind::ChannelAftertouch { channel, value } => put_two_fields(
+        EventKind::ChannelAftertouch { channel, value } => put_byte_fields(
             out,
             at,
-            channel as u32,
-            value as u32,
+            &[channel, value],
             sheet,
         ),
-        EventKind::PitchBend { channel, value } => put_two_fields(
-            out,
-            at,
-            channel as u32,
-            value as u32,
-            sheet,
-        ),
-        EventKind::SequenceNumber { number } => put_number_field(out, at, number, sheet),
-        EventKind::ChannelPrefix { number } => put_number_field(out, at, number as u32, sheet),
-        EventKind::MidiPort { number } => put_number_field(out, at, number as u32, sheet),
-        EventKind::Tempo { micros } => put_number_field(out, at, micros, sheet),
+        EventKind::PitchBend { channel, value } => {
+            let p = put_number_field(out, at, channel as u32, sheet);
+            put_number_field(out, p, value as u32, sheet)
+        }
+        EventKind::SequenceNumber { number } | EventKind::Tempo { micros: number } =>
+            put_number_field(out, at, number, sheet),
+        EventKind::ChannelPrefix { number }
+        | EventKind::MidiPort { number }
+        | EventKind::UnknownMeta { kind: number, .. } => put_byte_fields(out, at, &[number], sheet),
         EventKind::KeySignature { key, minor } => {
             let p = put_signed_field(out, at, key as u32, 8, 256, sheet);
             put_mode_field(out, p, minor, sheet)
         }
-        EventKind::UnknownMeta { kind: t, .. } => put_number_field(out, at, t as u32, sheet),
         _ => at,
     }
 }
 
-// The same of at most three.
-fn put_three_columns(out: &mut [u8], at: usize, kind: EventKind, sheet: bool) -> usize
-    requires fact_1 { at < 2 ^ 42 }
-    requires fact_2 { column_count kind ≤ 3 }
+// The same of any event.
+#[tactic(auto, unfolding(event::specs::Step::kind_from, midicsv::specs::Record::name_of, midicsv::specs::Record::values_of, midicsv::specs::Record::fields_of, midicsv::specs::Record::column_field, midicsv::specs::Record::tail_fields, midicsv::specs::Record::data_fields, midicsv::specs::Table::event_shape, midicsv::specs::Show::further))]
+fn put_columns(out: &mut [u8], at: usize, kind: EventKind, sheet: bool) -> usize
+    requires { at < 2 ^ 42 }
     ensures { Written out.old at (further (form_of sheet) (column_fields (kind_from [] kind))) out.new result }
 {
     match kind {
@@ -117,76 +92,41 @@ fn put_three_columns(out: &mut [u8], at: usize, kind: EventKind, sheet: bool) ->
             channel,
             key,
             velocity,
-        } => put_three_fields(out, at, channel as u32, key as u32, velocity as u32, sheet),
-        EventKind::NoteOn {
+        }
+        | EventKind::NoteOn {
             channel,
             key,
             velocity,
-        } => put_three_fields(out, at, channel as u32, key as u32, velocity as u32, sheet),
+        } => put_byte_fields(out, at, &[channel, key, velocity], sheet),
         EventKind::PolyAftertouch {
             channel,
             key,
             value,
-        } => put_three_fields(out, at, channel as u32, key as u32, value as u32, sheet),
+        } => put_byte_fields(out, at, &[channel, key, value], sheet),
         EventKind::Control {
             channel,
             controller,
             value,
-        } => put_three_fields(
-            out,
-            at,
-            channel as u32,
-            controller as u32,
-            value as u32,
-            sheet,
-        ),
-        _ => put_few_columns(out, at, kind, sheet),
-    }
-}
-
-// The same of any event.
-fn put_columns(out: &mut [u8], at: usize, kind: EventKind, sheet: bool) -> usize
-    requires { at < 2 ^ 42 }
-    ensures { Written out.old at (further (form_of sheet) (column_fields (kind_from [] kind))) out.new result }
-{
-    match kind {
+        } => put_byte_fields(out, at, &[channel, controller, value], sheet),
         EventKind::SmpteOffset {
             hour,
             minute,
             second,
             frame,
             part,
-        } => {
-            let p = put_number_field(out, at, hour as u32, sheet);
-            put_four_fields(
-                out,
-                p,
-                minute as u32,
-                second as u32,
-                frame as u32,
-                part as u32,
-                sheet,
-            )
-        }
+        } => put_byte_fields(out, at, &[hour, minute, second, frame, part], sheet),
         EventKind::TimeSignature {
             numerator,
             denominator,
             click,
             notes,
-        } => put_four_fields(
-            out,
-            at,
-            numerator as u32,
-            denominator as u32,
-            click as u32,
-            notes as u32,
-            sheet,
-        ),
-        _ => put_three_columns(out, at, kind, sheet),
+        } => put_byte_fields(out, at, &[numerator, denominator, click, notes], sheet),
+        _ => put_few_columns(out, at, kind, sheet),
     }
 }
 
 // The Text, or the Length and Data, of an event's record.
+#[tactic(auto, using(event_write::proofs::WriteLaws::nothing, event_write::proofs::DataLaws::data_length), unfolding(event::specs::Step::kind_from, midicsv::specs::Record::name_of, midicsv::specs::Record::values_of, midicsv::specs::Record::tail_fields, midicsv::specs::Table::event_shape, midicsv::specs::Show::further))]
 fn put_body(out: &mut [u8], at: usize, kind: EventKind, body: &[u8], sheet: bool) -> usize
     requires fact_1 { at < 2 ^ 42 }
     requires fact_2 { length body.now < 2 ^ 32 }
@@ -196,31 +136,16 @@ fn put_body(out: &mut [u8], at: usize, kind: EventKind, body: &[u8], sheet: bool
         EventKind::Text { start, len, .. } => put_text_field(
             out,
             at,
-            event::number::event_data(body, start, len),
+            event_data(body, start, len),
             sheet,
         ),
-        EventKind::SystemExclusive { start, len } => put_sized(
+        EventKind::SystemExclusive { start, len }
+        | EventKind::SystemExclusivePacket { start, len }
+        | EventKind::SequencerSpecific { start, len }
+        | EventKind::UnknownMeta { start, len, .. } => put_sized(
             out,
             at,
-            event::number::event_data(body, start, len),
-            sheet,
-        ),
-        EventKind::SystemExclusivePacket { start, len } => put_sized(
-            out,
-            at,
-            event::number::event_data(body, start, len),
-            sheet,
-        ),
-        EventKind::SequencerSpecific { start, len } => put_sized(
-            out,
-            at,
-            event::number::event_data(body, start, len),
-            sheet,
-        ),
-        EventKind::UnknownMeta { start, len, .. } => put_sized(
-            out,
-            at,
-            event::number::event_data(body, start, len),
+            event_data(body, start, len),
             sheet,
         ),
         _ => at,
@@ -253,10 +178,10 @@ pub fn put_event_line(
 {
     let t = time.0;
     let p = put_line_start(out, at, track, t, sheet);
-    let q = midicsv::name::put_event_name(out, p, kind);
+    let q = put_event_name(out, p, kind);
     let r = put_columns(out, q, kind, sheet);
     let s = put_body(out, r, kind, body, sheet);
-    put_byte(out, s, 10)
+    put_byte(out, s, b'\n')
 }
 
 // Start_track of the track so numbered, and End_of_file.
@@ -297,7 +222,8 @@ pub fn put_header_line(out: &mut [u8], format: u32, count: u32, bits: u32, sheet
     ensures { Written out.old 0 (line (form_of sheet) (header_for format count bits)) out.new result }
 {
     let p = put_header_start(out, sheet);
-    let q = put_two_fields(out, p, format, count, sheet);
-    let r = put_signed_field(out, q, bits, 32768, 65536, sheet);
-    put_byte(out, r, 10)
+    let q = put_number_field(out, p, format, sheet);
+    let r = put_number_field(out, q, count, sheet);
+    let s = put_signed_field(out, r, bits, 32768, 65536, sheet);
+    put_byte(out, s, b'\n')
 }
