@@ -3,6 +3,7 @@ ghost use Rattle.std.specs.Prelude.{[], ◌∷◌, ◌<◌, ◌≤◌, ◌^◌, 
 ghost use Rattle.event.specs.Bytes.{big_endian};
 ghost use Rattle.event_write.specs.Written.{Written};
 
+// A byte.
 pub fn put_byte(out: &mut [u8], at: usize, b: u8) -> usize
     requires { at < 2 ^ 48 }
     ensures { Written out.old at (b ∷ []) out.new result }

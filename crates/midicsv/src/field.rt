@@ -16,7 +16,7 @@ const DOUBLED: u8 = b'"';
 // Numbers below it have one digit.
 const TEN: u32 = 10;
 
-// A number in decimal: the digits before the last, then the last.
+// A number in decimal: the digits before the last, then the last. Not by Display, which has no place to answer where the room ends.
 pub fn put_decimal(out: &mut [u8], at: usize, n: u32) -> usize
     requires { at < 2 ^ 47 }
     ensures { Written out.old at (decimal n) out.new result }

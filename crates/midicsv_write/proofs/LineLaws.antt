@@ -15,15 +15,15 @@ use Rattle.event.specs.declared.EventKind.TheVariants.{NoteOff, NoteOn, PolyAfte
 use Rattle.event.proofs.ChoiceLaws.{by_test}
 use Rattle.event_write.specs.Written.{Written}
 use Rattle.event_write.proofs.DataLaws.{data_length}
-use Rattle.midicsv.specs.Field.{bytes, digits_of, decimal, Field, num}
-use Rattle.midicsv.specs.Show.{Form, as_text, as_sheet, gap, show, joined, further, line_of}
+use Rattle.midicsv.specs.Field.{bytes, decimal, Field, num}
+use Rattle.midicsv.specs.Show.{Form, gap, show, joined, further, line_of}
 use Rattle.midicsv.specs.Table.{EventName, note_off_name, note_on_name, poly_aftertouch_name, control_change_name, program_change_name, channel_aftertouch_name, pitch_bend_name, system_exclusive_name, system_exclusive_packet_name, sequence_number_name, words, channel_prefix_name, midi_port_name, end_track_name, set_tempo_name, smpte_offset_name, time_signature_name, key_signature_name, sequencer_specific_name, unknown_meta_name, start_track, end_of_file, event_spelled, spelled, Column, range, key, mode, free_type, division, Tail, none, one_text, sized, event_shape, shape}
-use Rattle.midicsv.specs.Record.{signed_field, column_field, tail_fields, fields_of, record_line, name_of, values_of}
+use Rattle.midicsv.specs.Record.{Record, signed_field, column_field, tail_fields, fields_of, record_line, name_of, values_of}
 use Rattle.midicsv.specs.Text.{mark, event_record, records_text}
 use Rattle.midicsv.proofs.KindAcceptedLaws.{key_same}
 use Rattle.midicsv.proofs.FieldLaws.{decimal_length, quote_length, gap_length, data_length as fields-length}
 use Rattle.midicsv.proofs.LineBoundLaws.{mode_shown}
-use Rattle.midicsv_write.specs.Line.{event_from, column_fields, body_fields, line, header_for, header_start}
+use Rattle.midicsv_write.specs.Line.{event_from, column_fields, body_fields, line, header_for}
 
 -- ---- fields in a row
 
@@ -61,59 +61,6 @@ field_length w first all n = simp length-append (omega (arith, signed_length w f
 pub key_fields : (w : Form) (b m : ℕ) → b ≤ 255 → further w (signed_field 8 256 b ∷ column_field mode m ∷ []) ≡ further w (column_fields (key_signature (key_of b) m))
 unfolding name_of event_shape values_of fields_of tail_fields column_field
 key_fields w b m h = ap (λ z. further w (signed_field 8 256 z ∷ column_field mode m ∷ [])) (sym (key_same b h))
-
--- ---- lines without an event
-
--- the bytes of lines that are written as they stand
-unfoldable pub start_tail : Form → List ℕ
-start_tail as_text = bytes ", 0, Start_track\n"
-start_tail as_sheet = bytes ",0,Start_track\n"
-
-unfoldable pub end_line_lem : Form → List ℕ
-end_line_lem as_text = bytes "0, 0, End_of_file\n"
-end_line_lem as_sheet = bytes "0,0,End_of_file\n"
-
-pub start_line : (w : Form) (n : ℕ) → decimal n ++ start_tail w ≡ line w (mark start_track n)
-unfolding start_tail gap records_text record_line line_of further show spelled shape fields_of tail_fields decimal digits_of pick
-start_line as_text n = sym (append_assoc (decimal n) (bytes ", 0, Start_track") (10 ∷ []))
-start_line as_sheet n = sym (append_assoc (decimal n) (bytes ",0,Start_track") (10 ∷ []))
-
-tail_few : (w : Form) → length (start_tail w) ≤ 18
-unfolding start_tail
-tail_few as_text = omega arith
-tail_few as_sheet = omega arith
-
-pub start_line_length : (w : Form) (n : ℕ) → length (line w (mark start_track n)) ≤ 28
-start_line_length w n = rw (← start_line w n) (simp length-append (omega (arith, decimal_length n, tail_few w)))
-
-pub end_line : (w : Form) → end_line_lem w ≡ line w (mark end_of_file 0)
-unfolding end_line_lem gap records_text record_line line_of further show spelled shape fields_of tail_fields decimal digits_of pick
-end_line as_text = refl
-end_line as_sheet = refl
-
-three_fields : (w : Form) (f g h : Field) (l : List ℕ) → joined w f ++ (joined w g ++ (joined w h ++ l)) ≡ further w (f ∷ g ∷ h ∷ []) ++ l
-unfolding further
-three_fields w f g h l = simp (append_assoc, append-nil)
-
--- the columns of the Header
-header_fields : (w : Form) (a b c : ℕ) → header_start w ++ (further w (num a ∷ num b ∷ signed_field 32768 65536 c ∷ []) ++ (10 ∷ [])) ≡ line w (header_for a b c)
-unfolding header_start gap records_text record_line line_of further show spelled shape fields_of tail_fields column_field decimal digits_of pick
-header_fields as_text a b c = refl
-header_fields as_sheet a b c = refl
-
--- one after the other, as the code writes them
-pub header_line : (w : Form) (a b c : ℕ) → header_start w ++ (joined w (num a) ++ (joined w (num b) ++ (joined w (signed_field 32768 65536 c) ++ (10 ∷ [])))) ≡ line w (header_for a b c)
-header_line w a b c = ap (λ z. header_start w ++ z) (three_fields w (num a) (num b) (signed_field 32768 65536 c) (10 ∷ [])) ∙ header_fields w a b c
-
-pub header_few : (w : Form) → length (header_start w) ≤ 12
-unfolding header_start
-header_few as_text = omega arith
-header_few as_sheet = omega arith
-
-pub header_line_length : (w : Form) (a b c : ℕ) → length (line w (header_for a b c)) ≤ 50
-unfolding show
-header_line_length w a b c =
-    rw (← header_line w a b c) (simp length-append (omega (arith, decimal_length a, decimal_length b, gap_length w, signed_length w 32768 65536 c, header_few w)))
 
 -- ---- the row of an event: its data are in the Text, or the Data, alone
 
@@ -227,7 +174,7 @@ tail_length w sized d = simp length-append (omega (arith, decimal_length (length
 pub body_length : (w : Form) (body : List ℕ) (k : EventKind) → length (further w (body_fields (kind_from body k))) ≤ 12 + 12 * length body
 body_length w body k = omega (arith, tail_length w (event_shape (name_of (kind_from body k))).tail (values_of (kind_from body k)).body, (same_row body k).data_few)
 
--- ---- its line
+-- ---- lines
 
 -- Track and Time, to where the name begins
 abbrev pub start_of : Form → ℕ → ℕ → List ℕ
@@ -237,18 +184,47 @@ pub start_length : (w : Form) (track time : ℕ) → length (start_of w track ti
 unfolding show
 start_length w track time = simp length-append (omega (arith, decimal_length track, decimal_length time, gap_length w))
 
--- the same parts, grouped as they are written
-regroup : (a b g n c d : List ℕ) → (a ++ b ++ g) ++ (n ++ (c ++ (d ++ (10 ∷ [])))) ≡ (a ++ (b ++ ((g ++ n) ++ (c ++ d)))) ++ (10 ∷ [])
-regroup a b g n c d = simp append_assoc
+-- the parts of a line, one after the other
+named_line : (w : Form) (r : Record) → start_of w r.track r.time ++ (spelled r.name ++ (further w (fields_of (shape r.name).columns (shape r.name).tail r.values.columns r.values.body) ++ (10 ∷ []))) ≡ line w r
+unfolding records_text record_line line_of further show
+named_line w r = simp append_assoc
+
+pub start_line : (w : Form) (n : ℕ) → start_of w n 0 ++ bytes "Start_track\n" ≡ line w (mark start_track n)
+unfolding further spelled shape fields_of tail_fields
+start_line w n = named_line w (mark start_track n)
+
+pub end_line : (w : Form) → start_of w 0 0 ++ bytes "End_of_file\n" ≡ line w (mark end_of_file 0)
+unfolding further spelled shape fields_of tail_fields
+end_line w = named_line w (mark end_of_file 0)
+
+three_fields : (w : Form) (f g h : Field) (l : List ℕ) → joined w f ++ (joined w g ++ (joined w h ++ l)) ≡ further w (f ∷ g ∷ h ∷ []) ++ l
+unfolding further
+three_fields w f g h l = simp (append_assoc, append-nil)
+
+pub header_line : (w : Form) (a b c : ℕ) → start_of w 0 0 ++ (bytes "Header" ++ (joined w (num a) ++ (joined w (num b) ++ (joined w (signed_field 32768 65536 c) ++ (10 ∷ []))))) ≡ line w (header_for a b c)
+unfolding spelled shape fields_of tail_fields column_field
+header_line w a b c =
+    ap (λ z. start_of w 0 0 ++ (bytes "Header" ++ z)) (three_fields w (num a) (num b) (signed_field 32768 65536 c) (10 ∷ [])) ∙ named_line w (header_for a b c)
+
+pub start_line_length : (w : Form) (n : ℕ) → length (line w (mark start_track n)) ≤ 36
+unfolding show
+start_line_length w n = rw (← start_line w n) (simp length-append (omega (arith, decimal_length n, decimal_length 0, gap_length w)))
+
+pub header_line_length : (w : Form) (a b c : ℕ) → length (line w (header_for a b c)) ≤ 68
+unfolding show
+header_line_length w a b c =
+    rw (← header_line w a b c) (simp length-append (omega (arith, decimal_length 0, decimal_length a, decimal_length b, gap_length w, signed_length w 32768 65536 c)))
 
 whole_line : (w : Form) (track : ℕ) (e : Event) → start_of w track e.time ++ (event_spelled (name_of e.kind) ++ (further w (column_fields e.kind) ++ (further w (body_fields e.kind) ++ (10 ∷ []))))
     ≡ line w (event_record track e)
-unfolding records_text record_line line_of further show spelled shape event_record
+unfolding spelled shape event_record
 whole_line w track e =
     let k = e.kind in
+    let c : List ℕ = further w (column_fields k) in
+    let b : List ℕ = further w (body_fields k) in
     let same = ap (further w) (row_fields_lem k) ∙ further_append w (column_fields k) (body_fields k) in
-    regroup (decimal track) (joined w (num e.time)) (gap w) (event_spelled (name_of k)) (further w (column_fields k)) (further w (body_fields k))
-    ∙ ap (λ z. (decimal track ++ (joined w (num e.time) ++ ((gap w ++ event_spelled (name_of k)) ++ z))) ++ (10 ∷ [])) (sym same)
+    ap (λ z. start_of w track e.time ++ (event_spelled (name_of k) ++ z)) (sym (append_assoc c b (10 ∷ [])) ∙ ap (λ z. z ++ (10 ∷ [])) (sym same))
+    ∙ named_line w (event_record track e)
 
 pub event_line : (w : Form) (track : ℕ) (t : Time) (body : List ℕ) (k : EventKind)
     → start_of w track t.0 ++ (event_spelled (name_of (kind_from [] k)) ++ (further w (column_fields (kind_from [] k)) ++ (further w (body_fields (kind_from body k)) ++ (10 ∷ []))))

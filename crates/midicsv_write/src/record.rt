@@ -8,7 +8,7 @@ ghost use Rattle.midicsv.specs.Code.Form.{form_of};
 ghost use Rattle.midicsv.specs.Table.{mode, start_track, end_of_file};
 ghost use Rattle.midicsv.specs.Record.{signed_field, column_field};
 ghost use Rattle.midicsv.specs.Text.{mark, event_record};
-ghost use Rattle.midicsv_write.specs.Line.{event_from, column_fields, column_count, body_fields, line, header_for, header_start};
+ghost use Rattle.midicsv_write.specs.Line.{event_from, column_fields, column_count, body_fields, line, header_for};
 
 use event::number::event_data;
 use event::{EventKind, Time};
@@ -184,36 +184,22 @@ pub fn put_event_line(
     put_byte(out, s, b'\n')
 }
 
-// Start_track of the track so numbered, and End_of_file.
+// Start_track of the track so numbered.
 pub fn put_start_line(out: &mut [u8], at: usize, track: u32, sheet: bool) -> usize
     requires { at < 2 ^ 42 }
     ensures { Written out.old at (line (form_of sheet) (mark start_track track)) out.new result }
 {
-    let p = put_decimal(out, at, track);
-    if sheet {
-        return put_bytes(out, p, b",0,Start_track\n");
-    }
-    put_bytes(out, p, b", 0, Start_track\n")
+    let p = put_line_start(out, at, track, 0, sheet);
+    put_bytes(out, p, b"Start_track\n")
 }
 
+// End_of_file, which ends a text.
 pub fn put_end_line(out: &mut [u8], at: usize, sheet: bool) -> usize
     requires { at < 2 ^ 42 }
     ensures { Written out.old at (line (form_of sheet) (mark end_of_file 0)) out.new result }
 {
-    if sheet {
-        return put_bytes(out, at, b"0,0,End_of_file\n");
-    }
-    put_bytes(out, at, b"0, 0, End_of_file\n")
-}
-
-// The beginning of the Header's line.
-fn put_header_start(out: &mut [u8], sheet: bool) -> usize
-    ensures { Written out.old 0 (header_start (form_of sheet)) out.new result }
-{
-    if sheet {
-        return put_bytes(out, 0, b"0,0,Header");
-    }
-    put_bytes(out, 0, b"0, 0, Header")
+    let p = put_line_start(out, at, 0, 0, sheet);
+    put_bytes(out, p, b"End_of_file\n")
 }
 
 // The Header's line, which begins a text.
@@ -221,9 +207,10 @@ pub fn put_header_line(out: &mut [u8], format: u32, count: u32, bits: u32, sheet
     requires { bits ≤ 65535 }
     ensures { Written out.old 0 (line (form_of sheet) (header_for format count bits)) out.new result }
 {
-    let p = put_header_start(out, sheet);
-    let q = put_number_field(out, p, format, sheet);
-    let r = put_number_field(out, q, count, sheet);
-    let s = put_signed_field(out, r, bits, 32768, 65536, sheet);
-    put_byte(out, s, b'\n')
+    let p = put_line_start(out, 0, 0, 0, sheet);
+    let q = put_bytes(out, p, b"Header");
+    let r = put_number_field(out, q, format, sheet);
+    let s = put_number_field(out, r, count, sheet);
+    let t = put_signed_field(out, s, bits, 32768, 65536, sheet);
+    put_byte(out, t, b'\n')
 }
