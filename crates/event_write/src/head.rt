@@ -1,4 +1,6 @@
 // An event with its delta, to the end of its fields, or to its length where data follow.
+#![tactic(auto, using(crate::proofs::WriteLaws::nothing, crate::proofs::HeadLaws::meta_length, std::proofs::lemmas::Bool::Decides::nat_tests), unfolding(crate::specs::Head::manner_of, crate::specs::Head::status_bytes, crate::specs::Head::long_bytes, crate::specs::Head::tail_bytes, event::specs::Choice::pick))]
+
 ghost use Rattle.std.specs.Prelude.{◌∷◌, ◌++◌, ◌<◌, ◌≤◌, ◌^◌, length};
 ghost use Rattle.event_write.specs.Written.{Written};
 ghost use Rattle.event_write.specs.Head.{fewest, manner_of, status_bytes, meta_bytes, long_bytes, tail_bytes, head_bytes};
@@ -18,7 +20,6 @@ struct Running {
 }
 
 // The status of a channel event: in the short manner it is left out where it is in force.
-#[tactic(auto, using(crate::proofs::WriteLaws::nothing, std::proofs::lemmas::Bool::Decides::nat_tests), unfolding(crate::specs::Head::status_bytes, crate::specs::Head::manner_of, event::specs::Choice::pick))]
 fn put_status(out: &mut [u8], at: usize, status: u8, running: Running) -> usize
     requires { at < 2 ^ 47 }
     ensures { Written out.old at (status_bytes (manner_of running.short) running.force status) out.new result }
@@ -76,7 +77,6 @@ fn put_exclusive(out: &mut [u8], at: usize, status: u8, len: usize) -> usize
 }
 
 // A system exclusive or meta event; of a channel event nothing.
-#[tactic(auto, using(crate::proofs::WriteLaws::nothing, crate::proofs::HeadLaws::meta_length), unfolding(crate::specs::Head::long_bytes))]
 fn put_long(out: &mut [u8], at: usize, kind: EventKind) -> usize
     requires { at < 2 ^ 45 }
     ensures { Written out.old at (long_bytes kind) out.new result }
@@ -117,7 +117,6 @@ fn put_long(out: &mut [u8], at: usize, kind: EventKind) -> usize
 }
 
 // An event after its delta.
-#[tactic(auto, unfolding(crate::specs::Head::tail_bytes))]
 fn put_tail(out: &mut [u8], at: usize, kind: EventKind, running: Running) -> usize
     requires { at < 2 ^ 44 }
     ensures { Written out.old at (tail_bytes (manner_of running.short) running.force kind) out.new result }

@@ -1,9 +1,10 @@
 // Kinds of bytes of a line.
+#![tactic(auto, unfolding(crate::specs::ReadField::is_blank, crate::specs::ReadField::is_digit, crate::specs::ReadField::is_letter, crate::specs::ReadField::is_octal))]
+
 ghost use Rattle.std.specs.Prelude.{◌≡◌};
 ghost use Rattle.midicsv.specs.ReadField.{is_blank, is_digit, is_letter, is_octal};
 
 // A space or a tab.
-#[tactic(auto, unfolding(crate::specs::ReadField::is_blank))]
 pub fn is_blank(c: u8) -> bool
     ensures { result ≡ is_blank c }
 {
@@ -11,7 +12,6 @@ pub fn is_blank(c: u8) -> bool
 }
 
 // 0 to 9.
-#[tactic(auto, unfolding(crate::specs::ReadField::is_digit))]
 pub fn is_digit(c: u8) -> bool
     ensures { result ≡ is_digit c }
 {
@@ -19,7 +19,6 @@ pub fn is_digit(c: u8) -> bool
 }
 
 // 0 to 7.
-#[tactic(auto, unfolding(crate::specs::ReadField::is_octal))]
 pub fn is_octal(c: u8) -> bool
     ensures { result ≡ is_octal c }
 {
@@ -27,7 +26,6 @@ pub fn is_octal(c: u8) -> bool
 }
 
 // A letter or an underscore.
-#[tactic(auto, unfolding(crate::specs::ReadField::is_letter))]
 pub fn is_letter(c: u8) -> bool
     ensures { result ≡ is_letter c }
 {

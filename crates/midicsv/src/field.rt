@@ -1,4 +1,6 @@
 // Fields of a record written, in a text or (`sheet`) in a sheet. Each writes only where there is room and answers the place after.
+#![tactic(auto, using(std::proofs::lemmas::Bool::Decides::nat_tests), unfolding(crate::specs::Field::in_octal, crate::specs::Field::escape, crate::specs::Spell::octal, crate::specs::Show::gap, crate::specs::Code::Form::form_of, event::specs::Choice::pick))]
+
 ghost use Rattle.std.specs.Prelude.{◌≡◌, [], ◌∷◌, ◌<◌, ◌^◌, length};
 ghost use Rattle.event_write.specs.Written.{Written};
 ghost use Rattle.midicsv.specs.Field.{decimal, in_octal, escape, num, quoted};
@@ -29,7 +31,6 @@ pub fn put_decimal(out: &mut [u8], at: usize, n: u32) -> usize
 }
 
 // Whether a byte of a text is written in octal.
-#[tactic(auto, unfolding(crate::specs::Field::in_octal))]
 fn in_octal(c: u8) -> bool
     ensures { result ≡ in_octal c }
 {
@@ -37,7 +38,6 @@ fn in_octal(c: u8) -> bool
 }
 
 // A byte of a text between its quotes.
-#[tactic(auto, using(std::proofs::lemmas::Bool::Decides::nat_tests), unfolding(crate::specs::Field::escape, crate::specs::Spell::octal, event::specs::Choice::pick))]
 fn put_escaped(out: &mut [u8], at: usize, c: u8) -> usize
     requires { at < 2 ^ 47 }
     ensures { Written out.old at (escape c) out.new result }
@@ -64,7 +64,6 @@ fn put_text(out: &mut [u8], at: usize, text: &[u8]) -> usize
 }
 
 // What stands between two fields: a comma, and in a text a space.
-#[tactic(auto, unfolding(crate::specs::Show::gap, crate::specs::Code::Form::form_of))]
 pub fn put_comma(out: &mut [u8], at: usize, sheet: bool) -> usize
     requires { at < 2 ^ 47 }
     ensures { Written out.old at (gap (form_of sheet)) out.new result }

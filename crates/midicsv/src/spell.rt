@@ -1,4 +1,6 @@
 // A text spelled for a cell of a sheet (docs/SPREADSHEET.md). Each writer writes only where there is room and answers the place after.
+#![tactic(auto, unfolding(crate::specs::Spell::octal, crate::specs::Spell::or_octal, crate::specs::Spell::is_mark, crate::specs::Spell::is_solid, crate::specs::Spell::stands_inside, crate::specs::Spell::stands_last, event::specs::Choice::pick))]
+
 ghost use Rattle.std.specs.Prelude.{◌≡◌, ◌&&◌, ◌<◌, ◌≤◌, ◌^◌, length, get_or, drop};
 ghost use Rattle.event_write.specs.Written.{Written};
 ghost use Rattle.midicsv.specs.Spell.{octal, or_octal, is_mark, is_solid, stands_inside, stands_last, is_truth, spell_rest, spell_short, octal_all, spell_text};
@@ -15,7 +17,6 @@ const LAST_MARK: u8 = b'.';
 const LONGEST: usize = 8191;
 
 // One of ! ' ( ) * + - . : ?
-#[tactic(auto, unfolding(crate::specs::Spell::is_mark))]
 fn is_mark(c: u8) -> bool
     ensures { result ≡ is_mark c }
 {
@@ -23,7 +24,6 @@ fn is_mark(c: u8) -> bool
 }
 
 // A letter or a mark.
-#[tactic(auto, unfolding(crate::specs::Spell::is_solid))]
 fn is_solid(c: u8) -> bool
     ensures { result ≡ is_solid c }
 {
@@ -31,7 +31,6 @@ fn is_solid(c: u8) -> bool
 }
 
 // Whether a byte inside a text stands.
-#[tactic(auto, unfolding(crate::specs::Spell::stands_inside))]
 fn stands_inside(c: u8) -> bool
     ensures { result ≡ stands_inside c }
 {
@@ -39,7 +38,6 @@ fn stands_inside(c: u8) -> bool
 }
 
 // Whether the last byte of a text stands, after the byte before it.
-#[tactic(auto, unfolding(crate::specs::Spell::stands_last))]
 fn stands_last(before: u8, c: u8) -> bool
     ensures { result ≡ stands_last before c }
 {
@@ -47,7 +45,6 @@ fn stands_last(before: u8, c: u8) -> bool
 }
 
 // A backslash and three octal digits.
-#[tactic(auto, unfolding(crate::specs::Spell::octal))]
 pub fn put_octal(out: &mut [u8], at: usize, c: u8) -> usize
     requires { at < 2 ^ 47 }
     ensures { Written out.old at (octal c) out.new result }
@@ -60,7 +57,6 @@ pub fn put_octal(out: &mut [u8], at: usize, c: u8) -> usize
 }
 
 // A byte where it stands, else in octal.
-#[tactic(auto, unfolding(crate::specs::Spell::or_octal, event::specs::Choice::pick))]
 fn put_or_octal(out: &mut [u8], at: usize, c: u8, stands: bool) -> usize
     requires { at < 2 ^ 47 }
     ensures { Written out.old at (or_octal stands c) out.new result }

@@ -1,4 +1,6 @@
 // The lines of records written, in a text or (`sheet`) in a sheet. Each writes only where there is room and answers the place after.
+#![tactic(auto, using(event_write::proofs::WriteLaws::nothing, event_write::proofs::DataLaws::data_length), unfolding(event::specs::Step::kind_from, midicsv::specs::Record::name_of, midicsv::specs::Record::values_of, midicsv::specs::Record::fields_of, midicsv::specs::Record::column_field, midicsv::specs::Record::tail_fields, midicsv::specs::Record::data_fields, midicsv::specs::Table::event_shape, midicsv::specs::Show::further))]
+
 ghost use Rattle.std.specs.Prelude.{[], ◌∷◌, ◌++◌, ◌≤◌, ◌<◌, ◌^◌, length};
 ghost use Rattle.event.specs.Step.{kind_from};
 ghost use Rattle.event_write.specs.Written.{Written};
@@ -45,7 +47,6 @@ fn put_mode_field(out: &mut [u8], at: usize, minor: u8, sheet: bool) -> usize
 }
 
 // The columns of an event's record, of which there are at most two; data play no part in them.
-#[tactic(auto, unfolding(event::specs::Step::kind_from, midicsv::specs::Record::name_of, midicsv::specs::Record::values_of, midicsv::specs::Record::fields_of, midicsv::specs::Record::column_field, midicsv::specs::Record::tail_fields, midicsv::specs::Record::data_fields, midicsv::specs::Table::event_shape, midicsv::specs::Show::further))]
 fn put_few_columns(out: &mut [u8], at: usize, kind: EventKind, sheet: bool) -> usize
     requires fact_1 { at < 2 ^ 42 }
     requires fact_2 { column_count kind ≤ 2 }
@@ -82,7 +83,6 @@ fn put_few_columns(out: &mut [u8], at: usize, kind: EventKind, sheet: bool) -> u
 }
 
 // The same of any event.
-#[tactic(auto, unfolding(event::specs::Step::kind_from, midicsv::specs::Record::name_of, midicsv::specs::Record::values_of, midicsv::specs::Record::fields_of, midicsv::specs::Record::column_field, midicsv::specs::Record::tail_fields, midicsv::specs::Record::data_fields, midicsv::specs::Table::event_shape, midicsv::specs::Show::further))]
 fn put_columns(out: &mut [u8], at: usize, kind: EventKind, sheet: bool) -> usize
     requires { at < 2 ^ 42 }
     ensures { Written out.old at (further (form_of sheet) (column_fields (kind_from [] kind))) out.new result }
@@ -126,7 +126,6 @@ fn put_columns(out: &mut [u8], at: usize, kind: EventKind, sheet: bool) -> usize
 }
 
 // The Text, or the Length and Data, of an event's record.
-#[tactic(auto, using(event_write::proofs::WriteLaws::nothing, event_write::proofs::DataLaws::data_length), unfolding(event::specs::Step::kind_from, midicsv::specs::Record::name_of, midicsv::specs::Record::values_of, midicsv::specs::Record::tail_fields, midicsv::specs::Table::event_shape, midicsv::specs::Show::further))]
 fn put_body(out: &mut [u8], at: usize, kind: EventKind, body: &[u8], sheet: bool) -> usize
     requires fact_1 { at < 2 ^ 42 }
     requires fact_2 { length body.now < 2 ^ 32 }
