@@ -37,18 +37,3 @@ pub fn put_big_endian<const N: usize>(out: &mut [u8], at: usize, number: u32) ->
     let bytes = number.to_be_bytes();
     put_bytes(out, at, &bytes[bytes.len() - N..])
 }
-
-// For the callers that are yet to name the size.
-pub fn put_two(out: &mut [u8], at: usize, number: u32) -> usize
-    requires { at < 2 ^ 47 }
-    ensures { Written out.old at (big_endian 2 number) out.new result }
-{
-    put_big_endian::<2>(out, at, number)
-}
-
-pub fn put_four(out: &mut [u8], at: usize, number: u32) -> usize
-    requires { at < 2 ^ 47 }
-    ensures { Written out.old at (big_endian 4 number) out.new result }
-{
-    put_big_endian::<4>(out, at, number)
-}

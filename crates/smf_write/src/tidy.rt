@@ -12,7 +12,7 @@ ghost use Rattle.smf.specs.Writing.{short_answer, short_leaves};
 ghost use Rattle.smf_write.specs.Tidy.{step_of, events_in, track_in, tracks_in};
 
 use event::{Delta, EventKind, EventStep, Since, Time};
-use event_write::bytes::{put_bytes, put_four, put_two};
+use event_write::bytes::{put_big_endian, put_bytes};
 use smf::{Answer, ChunkStep, HEADER_TAG, HeaderStep, TRACK_TAG};
 
 // The longest file that is written, in bytes.
@@ -94,11 +94,11 @@ fn put_track(out: &mut [u8], at: usize, body: &[u8], short: bool) -> usize
     requires fact_3 { Readable (read_all 0 0 0 body.now) }
     ensures { Written out.old at (track_in (manner_of short) (value_or [] (read_all 0 0 0 body.now))) out.new result }
 {
-    let p = put_four(out, at, TRACK_TAG);
-    let q = put_four(out, p, 0);
+    let p = put_big_endian::<4>(out, at, TRACK_TAG);
+    let q = put_big_endian::<4>(out, p, 0);
     let end = put_events(out, q, body, short);
     let size = (end - q) as u32;
-    put_four(out, p, size);
+    put_big_endian::<4>(out, p, size);
     end
 }
 
@@ -150,11 +150,11 @@ fn put_file(out: &mut [u8], file: &[u8], short: bool) -> usize
             next,
         } => {
             let bits = smf::header::division_bits(division);
-            let a = put_four(out, 0, HEADER_TAG);
-            let b = put_four(out, a, 6);
-            let c = put_two(out, b, format);
-            let d = put_two(out, c, count);
-            let e = put_two(out, d, bits);
+            let a = put_big_endian::<4>(out, 0, HEADER_TAG);
+            let b = put_big_endian::<4>(out, a, 6);
+            let c = put_big_endian::<2>(out, b, format);
+            let d = put_big_endian::<2>(out, c, count);
+            let e = put_big_endian::<2>(out, d, bits);
             put_tracks(out, e, file, count, next, short)
         }
     }

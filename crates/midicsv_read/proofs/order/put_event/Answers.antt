@@ -21,8 +21,8 @@ overflow_cast-at c = let a = c.args in
     let n = row_length (manner_of a.short) a.st.force a.delta.0 a.line.now a.row c.requires.fact_2.start c.requires.fact_2.len in
     record { fits = omega (arith, c.put_row-at.ensures.place, n, c.requires.fact_1.at, c.requires.fact_2.short) }
 
-pub put_four-requires : goal.put_four-requires
-put_four-requires c = omega (arith, c.requires.fact_1.size c.requires.fact_4.phase, c.requires.fact_1.at)
+pub put_big_endian-requires-clause-fact_1 : goal.put_big_endian-requires-clause-fact_1
+put_big_endian-requires-clause-fact_1 c = omega (arith, c.requires.fact_1.size c.requires.fact_4.phase, c.requires.fact_1.at)
 
 pub returns-then-is_end : goal.returns-then-is_end
 returns-then-is_end c = let a = c.args in
@@ -31,7 +31,7 @@ returns-then-is_end c = let a = c.args in
     let row = record_in l a.row in
     let ends = sym (ap end_of c.row_kind-kind.ensures) ∙ sym c.is_end.ensures ∙ c.if-is_end.true in
     let n = row_length (manner_of a.short) a.st.force a.delta.0 l a.row c.requires.fact_2.start c.requires.fact_2.len in
-    record { fact_1 = event_ended (manner_of a.short) a.st _ row.track row.time row.values row.name _ _ a.row.start _ _ _ _ (event_name a.row.name c.requires.fact_3 c.requires.fact_2.name) (line_given l row bytes c.requires.fact_2.reads) c.requires.fact_2.short c.requires.fact_4 c.put_row-at.ensures ends c.put_four.ensures; fact_2 = omega (arith, c.put_row-at.ensures.place, n) }
+    record { fact_1 = event_ended (manner_of a.short) a.st _ row.track row.time row.values row.name _ _ a.row.start _ _ _ _ (event_name a.row.name c.requires.fact_3 c.requires.fact_2.name) (line_given l row bytes c.requires.fact_2.reads) c.requires.fact_2.short c.requires.fact_4 c.put_row-at.ensures ends c.put_big_endian.ensures; fact_2 = omega (arith, c.put_row-at.ensures.place, n) }
 
 pub returns : goal.returns
 returns c = let a = c.args in

@@ -17,24 +17,24 @@ division_bits-bits-requires c = let s = c.args.file.now in
     let came = sym c.read_header.ensures ∙ c.in-Fields.is in
     (headed s c.in-Fields.format c.in-Fields.count c.in-Fields.division c.in-Fields.next bytes came (file_accepted s c.in-Fields.format c.in-Fields.count c.in-Fields.division c.in-Fields.next bytes came c.requires.fact_2)).lawful
 
-pub put_four-b-requires : goal.put_four-b-requires
-put_four-b-requires c = omega (arith, c.put_four-a.ensures.place, length_big_endian 4 header_tag)
+pub put_big_endian-b-requires-clause-fact_1 : goal.put_big_endian-b-requires-clause-fact_1
+put_big_endian-b-requires-clause-fact_1 c = omega (arith, c.put_big_endian-a.ensures.place, length_big_endian 4 header_tag)
 
-pub put_two-c-requires : goal.put_two-c-requires
-put_two-c-requires c = omega (arith, c.put_four-b.ensures.place, c.put_four-a.ensures.place, length_big_endian 4 header_tag, length_big_endian 4 6)
+pub put_big_endian-c-requires-clause-fact_1 : goal.put_big_endian-c-requires-clause-fact_1
+put_big_endian-c-requires-clause-fact_1 c = omega (arith, c.put_big_endian-b.ensures.place, c.put_big_endian-a.ensures.place, length_big_endian 4 header_tag, length_big_endian 4 6)
 
-pub put_two-d-requires : goal.put_two-d-requires
-put_two-d-requires c = omega (arith, c.put_two-c.ensures.place, length_big_endian 2 c.in-Fields.format, c.put_four-b.ensures.place, c.put_four-a.ensures.place, length_big_endian 4 header_tag, length_big_endian 4 6)
+pub put_big_endian-d-requires-clause-fact_1 : goal.put_big_endian-d-requires-clause-fact_1
+put_big_endian-d-requires-clause-fact_1 c = omega (arith, c.put_big_endian-c.ensures.place, length_big_endian 2 c.in-Fields.format, c.put_big_endian-b.ensures.place, c.put_big_endian-a.ensures.place, length_big_endian 4 header_tag, length_big_endian 4 6)
 
-pub put_two-e-requires : goal.put_two-e-requires
-put_two-e-requires c = omega (arith, c.put_two-d.ensures.place, length_big_endian 2 c.in-Fields.count, c.put_two-c.ensures.place, length_big_endian 2 c.in-Fields.format, c.put_four-b.ensures.place, c.put_four-a.ensures.place, length_big_endian 4 header_tag, length_big_endian 4 6)
+pub put_big_endian-e-requires-clause-fact_1 : goal.put_big_endian-e-requires-clause-fact_1
+put_big_endian-e-requires-clause-fact_1 c = omega (arith, c.put_big_endian-d.ensures.place, length_big_endian 2 c.in-Fields.count, c.put_big_endian-c.ensures.place, length_big_endian 2 c.in-Fields.format, c.put_big_endian-b.ensures.place, c.put_big_endian-a.ensures.place, length_big_endian 4 header_tag, length_big_endian 4 6)
 
 pub put_tracks-requires : goal.put_tracks-requires
 put_tracks-requires c = let s = c.args.file.now in
     let bytes = bytes_of s (λ i. omega (arith, c.type_inv.file i)) in
     let came = sym c.read_header.ensures ∙ c.in-Fields.is in
     let there = file_accepted s c.in-Fields.format c.in-Fields.count c.in-Fields.division c.in-Fields.next bytes came c.requires.fact_2 in
-    record { fact_1 = omega (arith, c.put_two-e.ensures.place, length_big_endian 2 c.division_bits-bits.result, c.put_two-d.ensures.place, length_big_endian 2 c.in-Fields.count, c.put_two-c.ensures.place, length_big_endian 2 c.in-Fields.format, c.put_four-b.ensures.place, c.put_four-a.ensures.place, length_big_endian 4 header_tag, length_big_endian 4 6); fact_2 = (head_at s c.in-Fields.format c.in-Fields.count c.in-Fields.division c.in-Fields.next bytes came).inside; fact_3 = c.requires.fact_1; fact_4 = accepted_readable s c.in-Fields.count c.in-Fields.next there }
+    record { fact_1 = omega (arith, c.put_big_endian-e.ensures.place, length_big_endian 2 c.division_bits-bits.result, c.put_big_endian-d.ensures.place, length_big_endian 2 c.in-Fields.count, c.put_big_endian-c.ensures.place, length_big_endian 2 c.in-Fields.format, c.put_big_endian-b.ensures.place, c.put_big_endian-a.ensures.place, length_big_endian 4 header_tag, length_big_endian 4 6); fact_2 = (head_at s c.in-Fields.format c.in-Fields.count c.in-Fields.division c.in-Fields.next bytes came).inside; fact_3 = c.requires.fact_1; fact_4 = accepted_readable s c.in-Fields.count c.in-Fields.next there }
 
 pub returns-in-BadHeader : goal.returns-in-BadHeader
 returns-in-BadHeader c = let s = c.args.file.now in
@@ -49,4 +49,4 @@ returns-in-Fields c = let a = c.args in
     let came = sym c.read_header.ensures ∙ c.in-Fields.is in
     let there = file_accepted s c.in-Fields.format c.in-Fields.count c.in-Fields.division c.in-Fields.next bytes came c.requires.fact_2 in
     rw (file_bytes (manner_of a.short) s c.in-Fields.format c.in-Fields.count c.in-Fields.division c.in-Fields.next bytes came there, ← c.division_bits-bits.ensures)
-    (then c.put_four-a.ensures (then c.put_four-b.ensures (then c.put_two-c.ensures (then c.put_two-d.ensures (then c.put_two-e.ensures c.put_tracks.ensures)))))
+    (then c.put_big_endian-a.ensures (then c.put_big_endian-b.ensures (then c.put_big_endian-c.ensures (then c.put_big_endian-d.ensures (then c.put_big_endian-e.ensures c.put_tracks.ensures)))))
