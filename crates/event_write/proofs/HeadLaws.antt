@@ -35,10 +35,6 @@ pub meta_length : (t n : ℕ) → length (meta_bytes t n) ≤ 6
 unfolding meta_bytes
 meta_length t n = omega (arith, fewest_length n)
 
-pub meta_low : (t n : ℕ) → meta_bytes t (n % 268435456) ≡ meta_bytes t n
-unfolding meta_bytes
-meta_low t n = rw (fewest_low n)
-
 -- ---- the bytes of each row
 
 -- the status s, where it is not left out, and the bytes l after it

@@ -1,4 +1,5 @@
 pub mod WriteLaws
+pub mod BytesLaws
 pub mod PatchLaws
 pub mod NumberLaws
 pub mod HeadLaws

@@ -10,7 +10,7 @@ ghost use Rattle.fold.specs.Code.Row.{TracksRead, track_of, file_in, RowsFor, sh
 use super::FILE_LIMIT;
 use super::merge::merge;
 use event::refusal::Refusal;
-use event_write::bytes::{put_four, put_two};
+use event_write::bytes::put_big_endian;
 use smf::{Answer, HEADER_TAG, TRACK_TAG};
 
 // The tag, the length and the events of the one track. The length is known when the events are written, and
@@ -34,11 +34,11 @@ fn put_track(
     ensures fact_3 { times.new ≡ showing time_shown file.now count first times.old }
     ensures fact_4 { statuses.new ≡ showing status_shown file.now count first statuses.old }
 {
-    let p = put_four(out, at, TRACK_TAG);
-    let q = put_four(out, p, 0);
+    let p = put_big_endian::<4>(out, at, TRACK_TAG);
+    let q = put_big_endian::<4>(out, p, 0);
     let end = merge(out, places, times, statuses, q, file, count, first);
     let size = (end - q) as u32;
-    put_four(out, p, size);
+    put_big_endian::<4>(out, p, size);
     end
 }
 
@@ -62,11 +62,11 @@ fn put_file(
     ensures fact_3 { times.new ≡ showing time_shown file.now count first times.old }
     ensures fact_4 { statuses.new ≡ showing status_shown file.now count first statuses.old }
 {
-    let a = put_four(out, 0, HEADER_TAG);
-    let b = put_four(out, a, 6);
-    let c = put_two(out, b, 0);
-    let d = put_two(out, c, 1);
-    let e = put_two(out, d, bits);
+    let a = put_big_endian::<4>(out, 0, HEADER_TAG);
+    let b = put_big_endian::<4>(out, a, 6);
+    let c = put_big_endian::<2>(out, b, 0);
+    let d = put_big_endian::<2>(out, c, 1);
+    let e = put_big_endian::<2>(out, d, bits);
     put_track(out, places, times, statuses, e, file, count, first)
 }
 

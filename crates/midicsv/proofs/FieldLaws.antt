@@ -1,14 +1,13 @@
 -- Decimals from the last digit, the escapes of a byte, and how long both are.
 use mathlib.Core.Path.{◌≡◌, refl, sym, ap, ◌∙◌}
 use Prim.Native.Nat.{ℕ, zero, suc, ◌+◌, ◌*◌, ◌/◌, ◌%◌, ◌<◌, ◌≤◌}
-use mathlib.Core.Bool.{true, false}
 use mathlib.Core.List.{List, [], ◌∷◌, ◌++◌, append_assoc}
 use native.Mathlib.Omega.{arith}
 use native.Mathlib.Numerals.{add-one}
 use lib.ListN.{length, drop, get_or, length-append, drop_of_length-le}
 use lib.Seq.{drop-cons}
-use lib.Dec.{leb, ltb, eqb}
-use borrow.Author.Tests.{lt-ltb, le-ltb, le-leb, lt-leb, ne_eqb}
+use lib.Dec.{ltb, eqb}
+use borrow.Author.Tests.{lt-ltb, le-ltb}
 use Rattle.event.specs.Choice.{pick}
 use Rattle.event.proofs.ChoiceLaws.{by_test}
 use Rattle.midicsv.specs.Field.{digits_of, decimal, in_octal, escape, escape_all, num}
@@ -50,34 +49,6 @@ unfolding decimal digits_of pick
 decimal_one n h = let e : n % 10 ≡ n = omega arith in rw (lt-ltb n 10 h) (ap (λ d. (48 + d) ∷ []) e)
 
 -- ---- texts
-
-pub octal_low : (c : ℕ) → c < 32 → true ≡ in_octal c
-unfolding in_octal
-octal_low c h = rw (lt-ltb c 32 h) refl
-
-pub octal_middle : (c : ℕ) → 32 ≤ c → c < 127 → false ≡ in_octal c
-unfolding in_octal
-octal_middle c h k = rw (le-ltb c 32 h, lt-leb 127 c k) refl
-
-pub octal_high : (c : ℕ) → 127 ≤ c → leb c 160 ≡ in_octal c
-unfolding in_octal
-octal_high c h = rw (le-ltb c 32 (omega arith), le-leb 127 c h) refl
-
-pub escape_quote : (c : ℕ) → c ≡ 34 → 34 ∷ 34 ∷ [] ≡ escape c
-unfolding escape pick
-escape_quote c h = rw h refl
-
-pub escape_slash : (c : ℕ) → c ≡ 92 → 92 ∷ 92 ∷ [] ≡ escape c
-unfolding escape pick
-escape_slash c h = rw h refl
-
-pub escape_octal : (c : ℕ) → (c ≡ 34 → ⊥) → (c ≡ 92 → ⊥) → in_octal c ≡ true → 92 ∷ (48 + c / 64) ∷ (48 + c / 8 % 8) ∷ (48 + c % 8) ∷ [] ≡ escape c
-unfolding escape pick
-escape_octal c n m o = rw (ne_eqb c 34 n, ne_eqb c 92 m, o) refl
-
-pub escape_none : (c : ℕ) → (c ≡ 34 → ⊥) → (c ≡ 92 → ⊥) → in_octal c ≡ false → c ∷ [] ≡ escape c
-unfolding escape pick
-escape_none c n m o = rw (ne_eqb c 34 n, ne_eqb c 92 m, o) refl
 
 escape_length : (c : ℕ) → length (escape c) ≤ 4
 unfolding escape pick

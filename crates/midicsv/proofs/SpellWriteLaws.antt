@@ -1,30 +1,33 @@
 -- The bytes of a spelled text one after the other: what is left to write.
 use mathlib.Core.Path.{◌≡◌, refl, sym}
-use Prim.Native.Nat.{ℕ, suc, ◌+◌, ◌<◌, ◌≤◌}
+use Prim.Native.Nat.{ℕ, suc, ◌+◌, ◌-◌, ◌<◌, ◌≤◌}
 use mathlib.Core.Bool.{Bool, ◌&&◌, not}
 use mathlib.Core.List.{List, [], ◌∷◌, ◌++◌}
 use native.Mathlib.Omega.{arith}
 use native.Mathlib.Numerals.{add-one}
-use lib.ListN.{length, drop, get_or, drop_of_length-le}
+use lib.ListN.{length, take, drop, get_or, drop_of_length-le, length-take}
+use Rattle.std.proofs.lemmas.List.{get_or-take}
 use lib.Seq.{drop-cons}
 use borrow.Author.Tests.{le-leb, lt-leb}
 use Rattle.event.proofs.ChoiceLaws.{pick_true, pick_false}
 use Rattle.midicsv.specs.ReadField.{is_letter}
 use Rattle.midicsv.specs.Spell.{octal, or_octal, stands_inside, stands_last, is_truth, spell_rest, spell_short, octal_all, spell_text, longest}
 
+-- the last byte, and those inside before it
 module _ (free : Bool) (before : ℕ) (d : List ℕ) (i : ℕ) where
-  -- a byte that is not the last
-  pub rest_more : i + 1 < length d → spell_rest free before (drop i d) ≡ or_octal (stands_inside (get_or d i 0)) (get_or d i 0) ++ spell_rest free (get_or d i 0) (drop (i + 1) d)
+  -- a byte inside
+  pub rest_more : i < length (take (length d - 1) d)
+      → let c = get_or (take (length d - 1) d) i 0 in spell_rest free before (drop i d) ≡ or_octal (stands_inside c) c ++ spell_rest free c (drop (i + 1) d)
   unfolding spell_rest
-  rest_more h = rw (add-one, drop-cons d i 0 (omega arith), drop-cons d (suc i) 0 (omega arith))
+  rest_more h =
+      let size : i < length d - 1 = omega (arith, length-take (length d - 1) d) in
+      rw (get_or-take (length d - 1) d i 0 size, add-one, drop-cons d i 0 (omega arith), drop-cons d (suc i) 0 (omega arith))
 
-  pub rest_last : i + 1 ≡ length d → spell_rest free before (drop i d) ≡ or_octal (free && stands_last before (get_or d i 0)) (get_or d i 0)
+  pub rest_last : i ≡ length (take (length d - 1) d) → 1 ≤ length d → let c = get_or d (length d - 1) 0 in spell_rest free before (drop i d) ≡ or_octal (free && stands_last before c) c
   unfolding spell_rest
-  rest_last h = rw (drop-cons d i 0 (omega arith), drop_of_length-le d {i = suc i} (omega arith))
-
-  pub rest_end : length d ≤ i → spell_rest free before (drop i d) ≡ []
-  unfolding spell_rest
-  rest_end h = rw (drop_of_length-le d h)
+  rest_last p q =
+      let e : i ≡ length d - 1 = omega (arith, length-take (length d - 1) d) in
+      rw (sym e, drop-cons d i 0 (omega arith), drop_of_length-le d {i = suc i} (omega arith))
 
 module _ (d : List ℕ) (i : ℕ) where
   pub octals_more : i < length d → octal_all (drop i d) ≡ octal (get_or d i 0) ++ octal_all (drop (i + 1) d)
@@ -35,7 +38,12 @@ module _ (d : List ℕ) (i : ℕ) where
   unfolding octal_all
   octals_end h = rw (drop_of_length-le d h)
 
-pub short_none : (d : List ℕ) → length d ≡ 0 → spell_short d ≡ []
+pub rest_none : (free : Bool) (before : ℕ) (d : List ℕ) → length d < 1 → spell_rest free before d ≡ []
+unfolding spell_rest
+rest_none free before [] h = refl
+rest_none free before (c ∷ l) h = absurd (omega arith)
+
+pub short_none : (d : List ℕ) → length d < 1 → spell_short d ≡ []
 unfolding spell_short
 short_none [] h = refl
 short_none (c ∷ l) h = absurd (omega arith)

@@ -1,4 +1,6 @@
 // Fields of a record written, in a text or (`sheet`) in a sheet. Each writes only where there is room and answers the place after.
+#![tactic(auto, using(std::proofs::lemmas::Bool::Decides::nat_tests), unfolding(crate::specs::Field::in_octal, crate::specs::Field::escape, crate::specs::Spell::octal, crate::specs::Show::gap, crate::specs::Code::Form::form_of, event::specs::Choice::pick))]
+
 ghost use Rattle.std.specs.Prelude.{◌≡◌, [], ◌∷◌, ◌<◌, ◌^◌, length};
 ghost use Rattle.event_write.specs.Written.{Written};
 ghost use Rattle.midicsv.specs.Field.{decimal, in_octal, escape, num, quoted};
@@ -7,38 +9,32 @@ ghost use Rattle.midicsv.specs.Code.Form.{form_of};
 ghost use Rattle.midicsv.specs.Table.{sized};
 ghost use Rattle.midicsv.specs.Record.{data_fields, tail_fields};
 
-use super::spell::put_cell_text;
-use event_write::bytes::put_byte;
+use super::spell::{put_cell_text, put_octal};
+use event_write::bytes::{put_byte, put_bytes};
 
 // The quote, which is written twice in a text.
-const DOUBLED: u8 = 34;
+const DOUBLED: u8 = b'"';
 
 // Numbers below it have one digit.
 const TEN: u32 = 10;
 
-// A number in decimal: the digits before the last, then the last.
+// A number in decimal: the digits before the last, then the last. Not by Display, which has no place to answer where the room ends.
 pub fn put_decimal(out: &mut [u8], at: usize, n: u32) -> usize
     requires { at < 2 ^ 47 }
     ensures { Written out.old at (decimal n) out.new result }
 {
     if n < TEN {
-        return put_byte(out, at, 48 + (n % 10) as u8);
+        return put_byte(out, at, b'0' + (n % 10) as u8);
     }
     let m = put_decimal(out, at, n / 10);
-    put_byte(out, m, 48 + (n % 10) as u8)
+    put_byte(out, m, b'0' + (n % 10) as u8)
 }
 
 // Whether a byte of a text is written in octal.
 fn in_octal(c: u8) -> bool
     ensures { result ≡ in_octal c }
 {
-    if c < 32 {
-        return true;
-    }
-    if c < 127 {
-        return false;
-    }
-    c <= 160
+    matches!(c, 0..=31 | 127..=160)
 }
 
 // A byte of a text between its quotes.
@@ -46,21 +42,12 @@ fn put_escaped(out: &mut [u8], at: usize, c: u8) -> usize
     requires { at < 2 ^ 47 }
     ensures { Written out.old at (escape c) out.new result }
 {
-    if c == DOUBLED {
-        let a = put_byte(out, at, 34);
-        return put_byte(out, a, 34);
+    match c {
+        DOUBLED => put_bytes(out, at, b"\"\""),
+        b'\\' => put_bytes(out, at, b"\\\\"),
+        _ if in_octal(c) => put_octal(out, at, c),
+        _ => put_byte(out, at, c),
     }
-    if c == 92 {
-        let a = put_byte(out, at, 92);
-        return put_byte(out, a, 92);
-    }
-    if in_octal(c) {
-        let a = put_byte(out, at, 92);
-        let b = put_byte(out, a, 48 + c / 64);
-        let d = put_byte(out, b, 48 + c / 8 % 8);
-        return put_byte(out, d, 48 + c % 8);
-    }
-    put_byte(out, at, c)
 }
 
 // A text in its quotes, as a text has it.
@@ -69,13 +56,11 @@ fn put_text(out: &mut [u8], at: usize, text: &[u8]) -> usize
     requires fact_2 { length text.now < 2 ^ 42 }
     ensures { Written out.old at (quote as_text text.now) out.new result }
 {
-    let mut next = put_byte(out, at, 34);
-    let mut i = 0;
-    while i < text.len() {
-        next = put_escaped(out, next, text[i]);
-        i = i + 1;
+    let mut next = put_byte(out, at, b'"');
+    for c in text {
+        next = put_escaped(out, next, *c);
     }
-    put_byte(out, next, 34)
+    put_byte(out, next, b'"')
 }
 
 // What stands between two fields: a comma, and in a text a space.
@@ -83,11 +68,10 @@ pub fn put_comma(out: &mut [u8], at: usize, sheet: bool) -> usize
     requires { at < 2 ^ 47 }
     ensures { Written out.old at (gap (form_of sheet)) out.new result }
 {
-    let a = put_byte(out, at, 44);
     if sheet {
-        return a;
+        return put_byte(out, at, b',');
     }
-    put_byte(out, a, 32)
+    put_bytes(out, at, b", ")
 }
 
 // A further number of a record.
@@ -112,17 +96,15 @@ pub fn put_text_field(out: &mut [u8], at: usize, text: &[u8], sheet: bool) -> us
     put_text(out, a, text)
 }
 
-// Data bytes, a field each.
-fn put_data(out: &mut [u8], at: usize, body: &[u8], sheet: bool) -> usize
+// Bytes, a field each.
+pub fn put_byte_fields(out: &mut [u8], at: usize, values: &[u8], sheet: bool) -> usize
     requires fact_1 { at < 2 ^ 44 }
-    requires fact_2 { length body.now < 2 ^ 32 }
-    ensures { Written out.old at (further (form_of sheet) (data_fields body.now)) out.new result }
+    requires fact_2 { length values.now < 2 ^ 32 }
+    ensures { Written out.old at (further (form_of sheet) (data_fields values.now)) out.new result }
 {
     let mut next = at;
-    let mut i = 0;
-    while i < body.len() {
-        next = put_number_field(out, next, body[i] as u32, sheet);
-        i = i + 1;
+    for b in values {
+        next = put_number_field(out, next, *b as u32, sheet);
     }
     next
 }
@@ -134,5 +116,5 @@ pub fn put_sized(out: &mut [u8], at: usize, body: &[u8], sheet: bool) -> usize
     ensures { Written out.old at (further (form_of sheet) (tail_fields sized body.now)) out.new result }
 {
     let a = put_number_field(out, at, body.len() as u32, sheet);
-    put_data(out, a, body, sheet)
+    put_byte_fields(out, a, body, sheet)
 }

@@ -9,6 +9,7 @@ use event::EventKind;
 use event_write::bytes::put_bytes;
 
 // The name of a text by its type, 1 to 7.
+#[tactic(auto, using(crate::proofs::NameLaws::no_text_lem, event_write::proofs::WriteLaws::nothing))]
 fn put_text_name(out: &mut [u8], at: usize, t: u8) -> usize
     requires { at < 2 ^ 45 }
     ensures { Written out.old at (get_or text_names t []) out.new result }

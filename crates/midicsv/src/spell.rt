@@ -1,4 +1,6 @@
 // A text spelled for a cell of a sheet (docs/SPREADSHEET.md). Each writer writes only where there is room and answers the place after.
+#![tactic(auto, unfolding(crate::specs::Spell::octal, crate::specs::Spell::or_octal, crate::specs::Spell::is_mark, crate::specs::Spell::is_solid, crate::specs::Spell::stands_inside, crate::specs::Spell::stands_last, event::specs::Choice::pick))]
+
 ghost use Rattle.std.specs.Prelude.{◌≡◌, ◌&&◌, ◌<◌, ◌≤◌, ◌^◌, length, get_or, drop};
 ghost use Rattle.event_write.specs.Written.{Written};
 ghost use Rattle.midicsv.specs.Spell.{octal, or_octal, is_mark, is_solid, stands_inside, stands_last, is_truth, spell_rest, spell_short, octal_all, spell_text};
@@ -6,10 +8,10 @@ ghost use Rattle.midicsv.specs.Show.{as_sheet, quote};
 
 use super::byte::is_letter;
 use super::truth::is_truth;
-use event_write::bytes::put_byte;
+use event_write::bytes::{put_byte, put_bytes};
 
-// The full stop: the last of the marks before the digits.
-const LAST_MARK: u8 = 46;
+// The last of the marks before the digits.
+const LAST_MARK: u8 = b'.';
 
 // A longer text is all in octal: cut off at a spreadsheet's limit it is refused.
 const LONGEST: usize = 8191;
@@ -18,69 +20,40 @@ const LONGEST: usize = 8191;
 fn is_mark(c: u8) -> bool
     ensures { result ≡ is_mark c }
 {
-    if c < 39 {
-        return c == 33;
-    }
-    if c <= 43 {
-        return true;
-    }
-    if c < 45 {
-        return false;
-    }
-    if c <= LAST_MARK {
-        return true;
-    }
-    if c == 58 {
-        return true;
-    }
-    c == 63
+    matches!(c, b'!' | b'\''..=b'+' | b'-'..=LAST_MARK | b':' | b'?')
 }
 
 // A letter or a mark.
 fn is_solid(c: u8) -> bool
     ensures { result ≡ is_solid c }
 {
-    if is_letter(c) {
-        return true;
-    }
-    is_mark(c)
+    is_letter(c) || is_mark(c)
 }
 
 // Whether a byte inside a text stands.
 fn stands_inside(c: u8) -> bool
     ensures { result ≡ stands_inside c }
 {
-    if is_solid(c) {
-        return true;
-    }
-    if c == 32 {
-        return true;
-    }
-    c == 44
+    is_solid(c) || c == b' ' || c == b','
 }
 
 // Whether the last byte of a text stands, after the byte before it.
 fn stands_last(before: u8, c: u8) -> bool
     ensures { result ≡ stands_last before c }
 {
-    if is_solid(c) {
-        return true;
-    }
-    if c == 32 {
-        return is_solid(before);
-    }
-    false
+    is_solid(c) || c == b' ' && is_solid(before)
 }
 
 // A backslash and three octal digits.
-fn put_octal(out: &mut [u8], at: usize, c: u8) -> usize
+pub fn put_octal(out: &mut [u8], at: usize, c: u8) -> usize
     requires { at < 2 ^ 47 }
     ensures { Written out.old at (octal c) out.new result }
 {
-    let a = put_byte(out, at, 92);
-    let b = put_byte(out, a, 48 + c / 64);
-    let d = put_byte(out, b, 48 + c / 8 % 8);
-    put_byte(out, d, 48 + c % 8)
+    put_bytes(
+        out,
+        at,
+        &[b'\\', b'0' + c / 64, b'0' + c / 8 % 8, b'0' + c % 8],
+    )
 }
 
 // A byte where it stands, else in octal.
@@ -94,38 +67,22 @@ fn put_or_octal(out: &mut [u8], at: usize, c: u8, stands: bool) -> usize
     put_octal(out, at, c)
 }
 
-// The last byte, after the byte before it: it stands only in a text that is no word.
-fn put_last(out: &mut [u8], at: usize, before: u8, c: u8, free: bool) -> usize
-    requires { at < 2 ^ 47 }
-    ensures { Written out.old at (or_octal (free && stands_last before c) c) out.new result }
-{
-    if free {
-        return put_or_octal(out, at, c, stands_last(before, c));
-    }
-    put_octal(out, at, c)
-}
-
-// The bytes after the first.
-fn put_rest(out: &mut [u8], at: usize, text: &[u8], free: bool) -> usize
+// The bytes after the one before them. The last of them stands only in a text that is no word.
+fn put_rest(out: &mut [u8], at: usize, first: u8, rest: &[u8], free: bool) -> usize
     requires fact_1 { at < 2 ^ 45 }
-    requires fact_2 { 1 ≤ length text.now }
-    requires fact_3 { length text.now < 2 ^ 42 }
-    ensures { Written out.old at (spell_rest free (get_or text.now 0 0) (drop 1 text.now)) out.new result }
+    requires fact_2 { length rest.now < 2 ^ 42 }
+    ensures { Written out.old at (spell_rest free first rest.now) out.new result }
 {
-    let last = text.len() - 1;
+    let [inside @ .., last] = rest else {
+        return at;
+    };
     let mut next = at;
-    let mut before = text[0];
-    let mut i = 1;
-    while i < last {
-        let c = text[i];
-        next = put_or_octal(out, next, c, stands_inside(c));
-        before = c;
-        i = i + 1;
+    let mut before = first;
+    for c in inside {
+        next = put_or_octal(out, next, *c, stands_inside(*c));
+        before = *c;
     }
-    if last < i {
-        return next;
-    }
-    put_last(out, next, before, text[i], free)
+    put_or_octal(out, next, *last, free && stands_last(before, *last))
 }
 
 // A text that is not too long.
@@ -134,12 +91,11 @@ fn put_short(out: &mut [u8], at: usize, text: &[u8]) -> usize
     requires fact_2 { length text.now < 2 ^ 42 }
     ensures { Written out.old at (spell_short text.now) out.new result }
 {
-    if text.len() == 0 {
+    let [first, rest @ ..] = text else {
         return at;
-    }
-    let c = text[0];
-    let next = put_or_octal(out, at, c, is_letter(c));
-    put_rest(out, next, text, !is_truth(text))
+    };
+    let next = put_or_octal(out, at, *first, is_letter(*first));
+    put_rest(out, next, *first, rest, !is_truth(text))
 }
 
 // Every byte in octal.
@@ -149,10 +105,8 @@ fn put_octals(out: &mut [u8], at: usize, text: &[u8]) -> usize
     ensures { Written out.old at (octal_all text.now) out.new result }
 {
     let mut next = at;
-    let mut i = 0;
-    while i < text.len() {
-        next = put_octal(out, next, text[i]);
-        i = i + 1;
+    for c in text {
+        next = put_octal(out, next, *c);
     }
     next
 }
@@ -163,7 +117,7 @@ fn put_spelled(out: &mut [u8], at: usize, text: &[u8]) -> usize
     requires fact_2 { length text.now < 2 ^ 42 }
     ensures { Written out.old at (spell_text text.now) out.new result }
 {
-    if LONGEST < text.len() {
+    if text.len() > LONGEST {
         return put_octals(out, at, text);
     }
     put_short(out, at, text)
@@ -175,7 +129,7 @@ pub fn put_cell_text(out: &mut [u8], at: usize, text: &[u8]) -> usize
     requires fact_2 { length text.now < 2 ^ 42 }
     ensures { Written out.old at (quote as_sheet text.now) out.new result }
 {
-    let a = put_byte(out, at, 34);
+    let a = put_byte(out, at, b'"');
     let b = put_spelled(out, a, text);
-    put_byte(out, b, 34)
+    put_byte(out, b, b'"')
 }

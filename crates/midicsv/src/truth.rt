@@ -11,16 +11,9 @@ fn among(word: &[u8], words: &[u8]) -> bool
     requires { 1 ≤ length word.now }
     ensures { result ≡ listed word.now (words_in (length word.now) words.now) }
 {
-    let n = word.len();
-    let mut at = 0;
-    while n <= words.len() - at {
-        let next = at + n;
-        if same_name(word, &words[at..next]) {
-            return true;
-        }
-        at = next;
-    }
-    false
+    words
+        .chunks_exact(word.len())
+        .any(|other| same_name(word, other))
 }
 
 // Whether a word is one of them.
@@ -62,12 +55,5 @@ fn is_listed(word: &[u8]) -> bool
 pub fn is_truth(text: &[u8]) -> bool
     ensures { result ≡ is_truth text.now }
 {
-    if text.len() == 0 {
-        return is_listed(text);
-    }
-    let last = text.len() - 1;
-    if text[last] == 32 {
-        return is_listed(&text[..last]);
-    }
-    is_listed(text)
+    is_listed(text.strip_suffix(b" ").unwrap_or(text))
 }

@@ -14,7 +14,7 @@ use super::write_row::{put_row, row_kind, status_after};
 use super::{Phase, Progress};
 use event::refusal::Refusal;
 use event::{Delta, Time};
-use event_write::bytes::{put_four, put_two};
+use event_write::bytes::put_big_endian;
 use midicsv_record::line::read_line;
 use midicsv_record::{Name, Row};
 use midicsv_scan::frame::{passed_over, trim};
@@ -35,11 +35,11 @@ fn put_header(out: &mut [u8], at: usize, format: u32, count: u32, bits: u32) -> 
     requires fact_2 { division_ok bits ≡ true }
     ensures { Written out.old at (lay_header format count (division_of bits) [] []) out.new result }
 {
-    let a = put_four(out, at, 0x4D546864);
-    let b = put_four(out, a, 6);
-    let c = put_two(out, b, format);
-    let d = put_two(out, c, count);
-    put_two(out, d, bits)
+    let a = put_big_endian::<4>(out, at, 0x4D546864);
+    let b = put_big_endian::<4>(out, a, 6);
+    let c = put_big_endian::<2>(out, b, format);
+    let d = put_big_endian::<2>(out, c, count);
+    put_big_endian::<2>(out, d, bits)
 }
 
 // Whether no record has been passed yet.
@@ -91,8 +91,8 @@ fn take_start(out: &mut [u8], st: Progress, row: Row) -> Result<Progress, Refusa
     if !is_marked(row, st.tracks + 1) {
         return Err(Refusal::RecordOutOfOrder);
     }
-    let size = put_four(out, st.at, 0x4D54726B);
-    let at = put_four(out, size, 0);
+    let size = put_big_endian::<4>(out, st.at, 0x4D54726B);
+    let at = put_big_endian::<4>(out, size, 0);
     Ok(Progress {
         phase: Phase::InTrack,
         time: Time(0),
@@ -146,7 +146,7 @@ fn put_event(
     // End_track and the status after an event are the same for any number of data bytes
     let kind = row_kind(row, 0);
     if event::read::is_end(kind) {
-        put_four(out, st.size, (at - st.size - 4) as u32);
+        put_big_endian::<4>(out, st.size, (at - st.size - 4) as u32);
         return Ok(Progress {
             phase: Phase::BetweenTracks,
             tracks: st.tracks + 1,

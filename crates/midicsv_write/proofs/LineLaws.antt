@@ -1,15 +1,10 @@
 -- The fields of a record in a row, the parts of a record's line, and how long they are.
 use mathlib.Core.Path.{◌≡◌, refl, sym, ap, subst, ◌∙◌}
 use Prim.Native.Nat.{ℕ, zero, suc, ◌+◌, ◌*◌, ◌-◌, ◌≤◌, zero-le}
-use mathlib.Core.Bool.{Bool, true, ◌&&◌, ◌||◌}
-use mathlib.Core.Logic.{inl, inr}
 use mathlib.Core.List.{List, [], ◌∷◌, ◌++◌, append_assoc, append-nil}
 use native.Mathlib.Omega.{arith}
-use denote.Enum.Declared.{tag_of}
-use types.Run.{OneOf, miss}
-use lib.ListN.{length, get_or, length-append, drop_of_length-le}
-use lib.Dec.{leb, ltb, eqb}
-use borrow.Author.Tests.{leb-true, ltb-true}
+use lib.ListN.{length, length-append}
+use lib.Dec.{ltb, eqb}
 use Rattle.event.specs.Choice.{pick}
 use Rattle.event.specs.Event.{Event, Kind, note_off, note_on, poly_aftertouch, control, program, channel_aftertouch, pitch_bend, system_exclusive, system_exclusive_packet, sequence_number, text, channel_prefix, midi_port, end_track, tempo, smpte_offset, time_signature, key_signature, sequencer_specific, unknown_meta}
 use Rattle.event.specs.Reader.{key_of}
@@ -17,19 +12,18 @@ use Rattle.event.specs.Step.{kind_from}
 use Rattle.event.specs.declared.Time.{Time}
 use Rattle.event.specs.declared.EventKind.{EventKind}
 use Rattle.event.specs.declared.EventKind.TheVariants.{NoteOff, NoteOn, PolyAftertouch, Control, Program, ChannelAftertouch, PitchBend, SystemExclusive, SystemExclusivePacket, SequenceNumber, Text, ChannelPrefix, MidiPort, EndTrack, Tempo, SmpteOffset, TimeSignature, KeySignature, SequencerSpecific, UnknownMeta}
-use Rattle.event.specs.contracts.EventKind.{the_type}
-use Rattle.event.proofs.ChoiceLaws.{by_test, or_cases, and_both}
+use Rattle.event.proofs.ChoiceLaws.{by_test}
 use Rattle.event_write.specs.Written.{Written}
 use Rattle.event_write.proofs.DataLaws.{data_length}
-use Rattle.midicsv.specs.Field.{bytes, digits_of, decimal, Field, num}
-use Rattle.midicsv.specs.Show.{Form, as_text, as_sheet, gap, show, joined, further, line_of}
+use Rattle.midicsv.specs.Field.{bytes, decimal, Field, num}
+use Rattle.midicsv.specs.Show.{Form, gap, show, joined, further, line_of}
 use Rattle.midicsv.specs.Table.{EventName, note_off_name, note_on_name, poly_aftertouch_name, control_change_name, program_change_name, channel_aftertouch_name, pitch_bend_name, system_exclusive_name, system_exclusive_packet_name, sequence_number_name, words, channel_prefix_name, midi_port_name, end_track_name, set_tempo_name, smpte_offset_name, time_signature_name, key_signature_name, sequencer_specific_name, unknown_meta_name, start_track, end_of_file, event_spelled, spelled, Column, range, key, mode, free_type, division, Tail, none, one_text, sized, event_shape, shape}
-use Rattle.midicsv.specs.Record.{signed_field, column_field, tail_fields, fields_of, record_line, name_of, values_of}
+use Rattle.midicsv.specs.Record.{Record, signed_field, column_field, tail_fields, fields_of, record_line, name_of, values_of}
 use Rattle.midicsv.specs.Text.{mark, event_record, records_text}
 use Rattle.midicsv.proofs.KindAcceptedLaws.{key_same}
 use Rattle.midicsv.proofs.FieldLaws.{decimal_length, quote_length, gap_length, data_length as fields-length}
 use Rattle.midicsv.proofs.LineBoundLaws.{mode_shown}
-use Rattle.midicsv_write.specs.Line.{event_from, column_fields, column_count, body_fields, line, header_for, header_start}
+use Rattle.midicsv_write.specs.Line.{event_from, column_fields, body_fields, line, header_for}
 
 -- ---- fields in a row
 
@@ -46,10 +40,6 @@ last_field {old} {new} {at} {next} w f x = subst (λ z. Written old at z new nex
 pub number_length : (w : Form) (n : ℕ) → length (joined w (num n)) ≤ 12
 unfolding show
 number_length w n = simp length-append (omega (arith, decimal_length n, gap_length w))
-
-pub two_length : (w : Form) (a b : ℕ) → length (further w (num a ∷ num b ∷ [])) ≤ 24
-unfolding further show
-two_length w a b = simp length-append (omega (arith, decimal_length a, decimal_length b, gap_length w))
 
 signed_length : (w : Form) (first all n : ℕ) → length (show w (signed_field first all n)) ≤ 11
 unfolding signed_field show pick
@@ -71,61 +61,6 @@ field_length w first all n = simp length-append (omega (arith, signed_length w f
 pub key_fields : (w : Form) (b m : ℕ) → b ≤ 255 → further w (signed_field 8 256 b ∷ column_field mode m ∷ []) ≡ further w (column_fields (key_signature (key_of b) m))
 unfolding name_of event_shape values_of fields_of tail_fields column_field
 key_fields w b m h = ap (λ z. further w (signed_field 8 256 z ∷ column_field mode m ∷ [])) (sym (key_same b h))
-
--- ---- lines without an event
-
--- the bytes of lines that are written as they stand
-unfoldable pub start_tail : Form → List ℕ
-start_tail as_text = bytes ", 0, Start_track\n"
-start_tail as_sheet = bytes ",0,Start_track\n"
-
-unfoldable pub end_line_lem : Form → List ℕ
-end_line_lem as_text = bytes "0, 0, End_of_file\n"
-end_line_lem as_sheet = bytes "0,0,End_of_file\n"
-
-pub start_line : (w : Form) (n : ℕ) → decimal n ++ start_tail w ≡ line w (mark start_track n)
-unfolding start_tail gap records_text record_line line_of further show spelled shape fields_of tail_fields decimal digits_of pick
-start_line as_text n = sym (append_assoc (decimal n) (bytes ", 0, Start_track") (10 ∷ []))
-start_line as_sheet n = sym (append_assoc (decimal n) (bytes ",0,Start_track") (10 ∷ []))
-
-tail_few : (w : Form) → length (start_tail w) ≤ 18
-unfolding start_tail
-tail_few as_text = omega arith
-tail_few as_sheet = omega arith
-
-pub start_line_length : (w : Form) (n : ℕ) → length (line w (mark start_track n)) ≤ 28
-start_line_length w n = rw (← start_line w n) (simp length-append (omega (arith, decimal_length n, tail_few w)))
-
-pub end_line : (w : Form) → end_line_lem w ≡ line w (mark end_of_file 0)
-unfolding end_line_lem gap records_text record_line line_of further show spelled shape fields_of tail_fields decimal digits_of pick
-end_line as_text = refl
-end_line as_sheet = refl
-
--- the columns of the Header
-header_fields : (w : Form) (a b c : ℕ) → header_start w ++ (further w (num a ∷ num b ∷ signed_field 32768 65536 c ∷ []) ++ (10 ∷ [])) ≡ line w (header_for a b c)
-unfolding header_start gap records_text record_line line_of further show spelled shape fields_of tail_fields column_field decimal digits_of pick
-header_fields as_text a b c = refl
-header_fields as_sheet a b c = refl
-
--- as the code writes them: two numbers, and the division
-pub header_line : (w : Form) (a b c : ℕ) → header_start w ++ (further w (num a ∷ num b ∷ []) ++ (further w (signed_field 32768 65536 c ∷ []) ++ (10 ∷ []))) ≡ line w (header_for a b c)
-header_line w a b c =
-    let xs : List Field = num a ∷ num b ∷ [] in
-    let ys : List Field = signed_field 32768 65536 c ∷ [] in
-    ap (λ z. header_start w ++ z) (sym (append_assoc (further w xs) (further w ys) (10 ∷ [])) ∙ ap (λ z. z ++ (10 ∷ [])) (sym (further_append w xs ys)))
-    ∙ header_fields w a b c
-
-pub header_few : (w : Form) → length (header_start w) ≤ 12
-unfolding header_start
-header_few as_text = omega arith
-header_few as_sheet = omega arith
-
-division_length : (w : Form) (n : ℕ) → length (further w (signed_field 32768 65536 n ∷ [])) ≤ 13
-unfolding further
-division_length w n = simp length-append (omega (arith, signed_length w 32768 65536 n, gap_length w))
-
-pub header_line_length : (w : Form) (a b c : ℕ) → length (line w (header_for a b c)) ≤ 50
-header_line_length w a b c = rw (← header_line w a b c) (simp length-append (omega (arith, two_length w a b, division_length w c, header_few w)))
 
 -- ---- the row of an event: its data are in the Text, or the Data, alone
 
@@ -239,98 +174,7 @@ tail_length w sized d = simp length-append (omega (arith, decimal_length (length
 pub body_length : (w : Form) (body : List ℕ) (k : EventKind) → length (further w (body_fields (kind_from body k))) ≤ 12 + 12 * length body
 body_length w body k = omega (arith, tail_length w (event_shape (name_of (kind_from body k))).tail (values_of (kind_from body k)).body, (same_row body k).data_few)
 
--- ---- the number of columns, and the kinds without Text or Data, by the tags of the code's enum
-
-abbrev column_counts : List ℕ
-column_counts = 3 ∷ 3 ∷ 3 ∷ 3 ∷ 2 ∷ 2 ∷ 2 ∷ 0 ∷ 0 ∷ 1 ∷ 0 ∷ 1 ∷ 1 ∷ 0 ∷ 1 ∷ 5 ∷ 4 ∷ 2 ∷ 0 ∷ 1 ∷ []
-
-tag_count : (k : EventKind) → column_count k ≡ get_or column_counts (tag_of the_type k) 0
-unfolding kind_from name_of event_shape values_of fields_of tail_fields
-tag_count (NoteOff a b c) = refl
-tag_count (NoteOn a b c) = refl
-tag_count (PolyAftertouch a b c) = refl
-tag_count (Control a b c) = refl
-tag_count (Program a b) = refl
-tag_count (ChannelAftertouch a b) = refl
-tag_count (PitchBend a b) = refl
-tag_count (SystemExclusive a b) = refl
-tag_count (SystemExclusivePacket a b) = refl
-tag_count (SequenceNumber a) = refl
-tag_count (Text t a b) = refl
-tag_count (ChannelPrefix a) = refl
-tag_count (MidiPort a) = refl
-tag_count EndTrack = refl
-tag_count (Tempo a) = refl
-tag_count (SmpteOffset a b c d e) = refl
-tag_count (TimeSignature a b c d) = refl
-tag_count (KeySignature a b) = refl
-tag_count (SequencerSpecific a b) = refl
-tag_count (UnknownMeta t a b) = refl
-
-abbrev all_of : (ℕ → Bool) → List ℕ → Bool
-all_of p [] = true
-all_of p (t ∷ ts) = p t && all_of p ts
-
-one_of : (p : ℕ → Bool) (ts : List ℕ) (t : ℕ) → all_of p ts ≡ true → OneOf ts t → p t ≡ true
-one_of p [] t e h = absurd h
-one_of p (x ∷ []) t e h = ap p h ∙ (and_both (p x) true e).0
-one_of p (x ∷ y ∷ ts) t e (inl h) = ap p h ∙ (and_both (p x) _ e).0
-one_of p (x ∷ y ∷ ts) t e (inr h) = one_of p (y ∷ ts) t (and_both (p x) _ e).1 h
-
--- a tag with at most n columns, or more than m
-abbrev Fewer : ℕ → ℕ → ℕ → Bool
-Fewer n m t = leb (get_or column_counts t 0) n || ltb m (get_or column_counts t 0)
-
-fewer : (n m : ℕ) (ts : List ℕ) (k : EventKind) → all_of (Fewer n m) ts ≡ true → OneOf ts (tag_of the_type k) → column_count k ≤ m → column_count k ≤ n
-fewer n m ts k e h most =
-    let told : (leb (column_count k) n || ltb m (column_count k)) ≡ true = ap (λ c. leb c n || ltb m c) (tag_count k) ∙ one_of (Fewer n m) ts (tag_of the_type k) e h in
-    or_cases (leb (column_count k) n) (ltb m (column_count k)) told (λ t. leb-true (column_count k) n t) (λ t. absurd (omega (arith, ltb-true m (column_count k) t)))
-
-abbrev not_long : List ℕ
-not_long = 0 ∷ 1 ∷ 2 ∷ 3 ∷ 4 ∷ 5 ∷ 6 ∷ 7 ∷ 8 ∷ 9 ∷ 10 ∷ 11 ∷ 12 ∷ 13 ∷ 14 ∷ 17 ∷ 18 ∷ 19 ∷ []
-
-pub three_columns : (k : EventKind) → OneOf not_long (tag_of the_type k) → column_count k ≤ 3
-three_columns k h = fewer 3 (column_count k) not_long k refl h (omega arith)
-
-abbrev not_three : List ℕ
-not_three = 4 ∷ 5 ∷ 6 ∷ 7 ∷ 8 ∷ 9 ∷ 10 ∷ 11 ∷ 12 ∷ 13 ∷ 14 ∷ 15 ∷ 16 ∷ 17 ∷ 18 ∷ 19 ∷ []
-
-pub few_columns : (k : EventKind) → OneOf not_three (tag_of the_type k) → column_count k ≤ 3 → column_count k ≤ 2
-few_columns k h most = fewer 2 3 not_three k refl h most
-
-abbrev not_few : List ℕ
-not_few = 0 ∷ 1 ∷ 2 ∷ 3 ∷ 7 ∷ 8 ∷ 10 ∷ 13 ∷ 15 ∷ 16 ∷ 18 ∷ []
-
-pub no_columns : (k : EventKind) → OneOf not_few (tag_of the_type k) → column_count k ≤ 2 → column_fields (kind_from [] k) ≡ []
-no_columns k h most = drop_of_length-le (column_fields (kind_from [] k)) (fewer 0 2 not_few k refl h most)
-
-abbrev bodiless : List ℕ
-bodiless = 0 ∷ 1 ∷ 2 ∷ 3 ∷ 4 ∷ 5 ∷ 6 ∷ 9 ∷ 11 ∷ 12 ∷ 13 ∷ 14 ∷ 15 ∷ 16 ∷ 17 ∷ []
-
-pub no_body : (body : List ℕ) (k : EventKind) → OneOf bodiless (tag_of the_type k) → body_fields (kind_from body k) ≡ []
-unfolding kind_from name_of event_shape values_of tail_fields
-no_body body (NoteOff a b c) h = refl
-no_body body (NoteOn a b c) h = refl
-no_body body (PolyAftertouch a b c) h = refl
-no_body body (Control a b c) h = refl
-no_body body (Program a b) h = refl
-no_body body (ChannelAftertouch a b) h = refl
-no_body body (PitchBend a b) h = refl
-no_body body (SystemExclusive a b) h = absurd (miss bodiless 7 tt h)
-no_body body (SystemExclusivePacket a b) h = absurd (miss bodiless 8 tt h)
-no_body body (SequenceNumber a) h = refl
-no_body body (Text t a b) h = absurd (miss bodiless 10 tt h)
-no_body body (ChannelPrefix a) h = refl
-no_body body (MidiPort a) h = refl
-no_body body EndTrack h = refl
-no_body body (Tempo a) h = refl
-no_body body (SmpteOffset a b c d e) h = refl
-no_body body (TimeSignature a b c d) h = refl
-no_body body (KeySignature a b) h = refl
-no_body body (SequencerSpecific a b) h = absurd (miss bodiless 18 tt h)
-no_body body (UnknownMeta t a b) h = absurd (miss bodiless 19 tt h)
-
--- ---- its line
+-- ---- lines
 
 -- Track and Time, to where the name begins
 abbrev pub start_of : Form → ℕ → ℕ → List ℕ
@@ -340,18 +184,47 @@ pub start_length : (w : Form) (track time : ℕ) → length (start_of w track ti
 unfolding show
 start_length w track time = simp length-append (omega (arith, decimal_length track, decimal_length time, gap_length w))
 
--- the same parts, grouped as they are written
-regroup : (a b g n c d : List ℕ) → (a ++ b ++ g) ++ (n ++ (c ++ (d ++ (10 ∷ [])))) ≡ (a ++ (b ++ ((g ++ n) ++ (c ++ d)))) ++ (10 ∷ [])
-regroup a b g n c d = simp append_assoc
+-- the parts of a line, one after the other
+named_line : (w : Form) (r : Record) → start_of w r.track r.time ++ (spelled r.name ++ (further w (fields_of (shape r.name).columns (shape r.name).tail r.values.columns r.values.body) ++ (10 ∷ []))) ≡ line w r
+unfolding records_text record_line line_of further show
+named_line w r = simp append_assoc
+
+pub start_line : (w : Form) (n : ℕ) → start_of w n 0 ++ bytes "Start_track\n" ≡ line w (mark start_track n)
+unfolding further spelled shape fields_of tail_fields
+start_line w n = named_line w (mark start_track n)
+
+pub end_line : (w : Form) → start_of w 0 0 ++ bytes "End_of_file\n" ≡ line w (mark end_of_file 0)
+unfolding further spelled shape fields_of tail_fields
+end_line w = named_line w (mark end_of_file 0)
+
+three_fields : (w : Form) (f g h : Field) (l : List ℕ) → joined w f ++ (joined w g ++ (joined w h ++ l)) ≡ further w (f ∷ g ∷ h ∷ []) ++ l
+unfolding further
+three_fields w f g h l = simp (append_assoc, append-nil)
+
+pub header_line : (w : Form) (a b c : ℕ) → start_of w 0 0 ++ (bytes "Header" ++ (joined w (num a) ++ (joined w (num b) ++ (joined w (signed_field 32768 65536 c) ++ (10 ∷ []))))) ≡ line w (header_for a b c)
+unfolding spelled shape fields_of tail_fields column_field
+header_line w a b c =
+    ap (λ z. start_of w 0 0 ++ (bytes "Header" ++ z)) (three_fields w (num a) (num b) (signed_field 32768 65536 c) (10 ∷ [])) ∙ named_line w (header_for a b c)
+
+pub start_line_length : (w : Form) (n : ℕ) → length (line w (mark start_track n)) ≤ 36
+unfolding show
+start_line_length w n = rw (← start_line w n) (simp length-append (omega (arith, decimal_length n, decimal_length 0, gap_length w)))
+
+pub header_line_length : (w : Form) (a b c : ℕ) → length (line w (header_for a b c)) ≤ 68
+unfolding show
+header_line_length w a b c =
+    rw (← header_line w a b c) (simp length-append (omega (arith, decimal_length 0, decimal_length a, decimal_length b, gap_length w, signed_length w 32768 65536 c)))
 
 whole_line : (w : Form) (track : ℕ) (e : Event) → start_of w track e.time ++ (event_spelled (name_of e.kind) ++ (further w (column_fields e.kind) ++ (further w (body_fields e.kind) ++ (10 ∷ []))))
     ≡ line w (event_record track e)
-unfolding records_text record_line line_of further show spelled shape event_record
+unfolding spelled shape event_record
 whole_line w track e =
     let k = e.kind in
+    let c : List ℕ = further w (column_fields k) in
+    let b : List ℕ = further w (body_fields k) in
     let same = ap (further w) (row_fields_lem k) ∙ further_append w (column_fields k) (body_fields k) in
-    regroup (decimal track) (joined w (num e.time)) (gap w) (event_spelled (name_of k)) (further w (column_fields k)) (further w (body_fields k))
-    ∙ ap (λ z. (decimal track ++ (joined w (num e.time) ++ ((gap w ++ event_spelled (name_of k)) ++ z))) ++ (10 ∷ [])) (sym same)
+    ap (λ z. start_of w track e.time ++ (event_spelled (name_of k) ++ z)) (sym (append_assoc c b (10 ∷ [])) ∙ ap (λ z. z ++ (10 ∷ [])) (sym same))
+    ∙ named_line w (event_record track e)
 
 pub event_line : (w : Form) (track : ℕ) (t : Time) (body : List ℕ) (k : EventKind)
     → start_of w track t.0 ++ (event_spelled (name_of (kind_from [] k)) ++ (further w (column_fields (kind_from [] k)) ++ (further w (body_fields (kind_from body k)) ++ (10 ∷ []))))

@@ -4,8 +4,8 @@ use Rattle.event.specs.Event.{Event, Kind}
 use Rattle.event.specs.Step.{kind_from}
 use Rattle.event.specs.declared.Time.{Time}
 use Rattle.event.specs.declared.EventKind.{EventKind}
-use Rattle.midicsv.specs.Field.{bytes, Field}
-use Rattle.midicsv.specs.Show.{Form, as_text, as_sheet}
+use Rattle.midicsv.specs.Field.{Field}
+use Rattle.midicsv.specs.Show.{Form}
 use Rattle.midicsv.specs.Table.{header, none, event_shape}
 use Rattle.midicsv.specs.Record.{Record, tail_fields, fields_of, name_of, plain, values_of}
 use Rattle.midicsv.specs.Text.{records_text}
@@ -33,8 +33,3 @@ line w r = records_text w (r ∷ [])
 -- "`0, 0, Header, format, tracks, division`", the division as its 16 bits
 abbrev pub header_for : ℕ → ℕ → ℕ → Record
 header_for format count bits = record { track = 0; time = 0; name = header; values = plain (format ∷ count ∷ bits ∷ []) }
-
--- the Header's line up to its numbers
-unfoldable pub header_start : Form → List ℕ
-header_start as_text = bytes "0, 0, Header"
-header_start as_sheet = bytes "0,0,Header"

@@ -1,4 +1,6 @@
 // The lines of records written, in a text or (`sheet`) in a sheet. Each writes only where there is room and answers the place after.
+#![tactic(auto, using(event_write::proofs::WriteLaws::nothing, event_write::proofs::DataLaws::data_length), unfolding(event::specs::Step::kind_from, midicsv::specs::Record::name_of, midicsv::specs::Record::values_of, midicsv::specs::Record::fields_of, midicsv::specs::Record::column_field, midicsv::specs::Record::tail_fields, midicsv::specs::Record::data_fields, midicsv::specs::Table::event_shape, midicsv::specs::Show::further))]
+
 ghost use Rattle.std.specs.Prelude.{[], ◌∷◌, ◌++◌, ◌≤◌, ◌<◌, ◌^◌, length};
 ghost use Rattle.event.specs.Step.{kind_from};
 ghost use Rattle.event_write.specs.Written.{Written};
@@ -8,11 +10,15 @@ ghost use Rattle.midicsv.specs.Code.Form.{form_of};
 ghost use Rattle.midicsv.specs.Table.{mode, start_track, end_of_file};
 ghost use Rattle.midicsv.specs.Record.{signed_field, column_field};
 ghost use Rattle.midicsv.specs.Text.{mark, event_record};
-ghost use Rattle.midicsv_write.specs.Line.{event_from, column_fields, column_count, body_fields, line, header_for, header_start};
+ghost use Rattle.midicsv_write.specs.Line.{event_from, column_fields, column_count, body_fields, line, header_for};
 
+use event::number::event_data;
 use event::{EventKind, Time};
 use event_write::bytes::{put_byte, put_bytes};
-use midicsv::field::{put_comma, put_decimal, put_number_field, put_sized, put_text_field};
+use midicsv::field::{
+    put_byte_fields, put_comma, put_decimal, put_number_field, put_sized, put_text_field,
+};
+use midicsv::name::put_event_name;
 
 // A number from what it is in a file: from `first` on it is below 0, and `all` more.
 fn put_signed_field(out: &mut [u8], at: usize, n: u32, first: u32, all: u32, sheet: bool) -> usize
@@ -24,7 +30,7 @@ fn put_signed_field(out: &mut [u8], at: usize, n: u32, first: u32, all: u32, she
         return put_number_field(out, at, n, sheet);
     }
     let a = put_comma(out, at, sheet);
-    let b = put_byte(out, a, 45);
+    let b = put_byte(out, a, b'-');
     put_decimal(out, b, all - n)
 }
 
@@ -40,31 +46,6 @@ fn put_mode_field(out: &mut [u8], at: usize, minor: u8, sheet: bool) -> usize
     put_bytes(out, a, b"\"minor\"")
 }
 
-// Two, three and four numbers of a record.
-fn put_two_fields(out: &mut [u8], at: usize, a: u32, b: u32, sheet: bool) -> usize
-    requires { at < 2 ^ 45 }
-    ensures { Written out.old at (further (form_of sheet) (num a ∷ num b ∷ [])) out.new result }
-{
-    let p = put_number_field(out, at, a, sheet);
-    put_number_field(out, p, b, sheet)
-}
-
-fn put_three_fields(out: &mut [u8], at: usize, a: u32, b: u32, c: u32, sheet: bool) -> usize
-    requires { at < 2 ^ 44 }
-    ensures { Written out.old at (further (form_of sheet) (num a ∷ num b ∷ num c ∷ [])) out.new result }
-{
-    let p = put_number_field(out, at, a, sheet);
-    put_two_fields(out, p, b, c, sheet)
-}
-
-fn put_four_fields(out: &mut [u8], at: usize, a: u32, b: u32, c: u32, d: u32, sheet: bool) -> usize
-    requires { at < 2 ^ 43 }
-    ensures { Written out.old at (further (form_of sheet) (num a ∷ num b ∷ num c ∷ num d ∷ [])) out.new result }
-{
-    let p = put_number_field(out, at, a, sheet);
-    put_three_fields(out, p, b, c, d, sheet)
-}
-
 // The columns of an event's record, of which there are at most two; data play no part in them.
 fn put_few_columns(out: &mut [u8], at: usize, kind: EventKind, sheet: bool) -> usize
     requires fact_1 { at < 2 ^ 42 }
@@ -72,75 +53,32 @@ fn put_few_columns(out: &mut [u8], at: usize, kind: EventKind, sheet: bool) -> u
     ensures { Written out.old at (further (form_of sheet) (column_fields (kind_from [] kind))) out.new result }
 {
     match kind {
-        EventKind::Program { channel, number } => put_two_fields(
+        EventKind::Program { channel, number } => put_byte_fields(
             out,
             at,
-            channel as u32,
-            number as u32,
+            &[channel, number],
             sheet,
         ),
-        EventKind::ChannelAftertouch { channel, value } => put_two_fields(
+        EventKind::ChannelAftertouch { channel, value } => put_byte_fields(
             out,
             at,
-            channel as u32,
-            value as u32,
+            &[channel, value],
             sheet,
         ),
-        EventKind::PitchBend { channel, value } => put_two_fields(
-            out,
-            at,
-            channel as u32,
-            value as u32,
-            sheet,
-        ),
-        EventKind::SequenceNumber { number } => put_number_field(out, at, number, sheet),
-        EventKind::ChannelPrefix { number } => put_number_field(out, at, number as u32, sheet),
-        EventKind::MidiPort { number } => put_number_field(out, at, number as u32, sheet),
-        EventKind::Tempo { micros } => put_number_field(out, at, micros, sheet),
+        EventKind::PitchBend { channel, value } => {
+            let p = put_number_field(out, at, channel as u32, sheet);
+            put_number_field(out, p, value as u32, sheet)
+        }
+        EventKind::SequenceNumber { number } | EventKind::Tempo { micros: number } =>
+            put_number_field(out, at, number, sheet),
+        EventKind::ChannelPrefix { number }
+        | EventKind::MidiPort { number }
+        | EventKind::UnknownMeta { kind: number, .. } => put_byte_fields(out, at, &[number], sheet),
         EventKind::KeySignature { key, minor } => {
             let p = put_signed_field(out, at, key as u32, 8, 256, sheet);
             put_mode_field(out, p, minor, sheet)
         }
-        EventKind::UnknownMeta { kind: t, .. } => put_number_field(out, at, t as u32, sheet),
         _ => at,
-    }
-}
-
-// The same of at most three.
-fn put_three_columns(out: &mut [u8], at: usize, kind: EventKind, sheet: bool) -> usize
-    requires fact_1 { at < 2 ^ 42 }
-    requires fact_2 { column_count kind ≤ 3 }
-    ensures { Written out.old at (further (form_of sheet) (column_fields (kind_from [] kind))) out.new result }
-{
-    match kind {
-        EventKind::NoteOff {
-            channel,
-            key,
-            velocity,
-        } => put_three_fields(out, at, channel as u32, key as u32, velocity as u32, sheet),
-        EventKind::NoteOn {
-            channel,
-            key,
-            velocity,
-        } => put_three_fields(out, at, channel as u32, key as u32, velocity as u32, sheet),
-        EventKind::PolyAftertouch {
-            channel,
-            key,
-            value,
-        } => put_three_fields(out, at, channel as u32, key as u32, value as u32, sheet),
-        EventKind::Control {
-            channel,
-            controller,
-            value,
-        } => put_three_fields(
-            out,
-            at,
-            channel as u32,
-            controller as u32,
-            value as u32,
-            sheet,
-        ),
-        _ => put_few_columns(out, at, kind, sheet),
     }
 }
 
@@ -150,39 +88,40 @@ fn put_columns(out: &mut [u8], at: usize, kind: EventKind, sheet: bool) -> usize
     ensures { Written out.old at (further (form_of sheet) (column_fields (kind_from [] kind))) out.new result }
 {
     match kind {
+        EventKind::NoteOff {
+            channel,
+            key,
+            velocity,
+        }
+        | EventKind::NoteOn {
+            channel,
+            key,
+            velocity,
+        } => put_byte_fields(out, at, &[channel, key, velocity], sheet),
+        EventKind::PolyAftertouch {
+            channel,
+            key,
+            value,
+        } => put_byte_fields(out, at, &[channel, key, value], sheet),
+        EventKind::Control {
+            channel,
+            controller,
+            value,
+        } => put_byte_fields(out, at, &[channel, controller, value], sheet),
         EventKind::SmpteOffset {
             hour,
             minute,
             second,
             frame,
             part,
-        } => {
-            let p = put_number_field(out, at, hour as u32, sheet);
-            put_four_fields(
-                out,
-                p,
-                minute as u32,
-                second as u32,
-                frame as u32,
-                part as u32,
-                sheet,
-            )
-        }
+        } => put_byte_fields(out, at, &[hour, minute, second, frame, part], sheet),
         EventKind::TimeSignature {
             numerator,
             denominator,
             click,
             notes,
-        } => put_four_fields(
-            out,
-            at,
-            numerator as u32,
-            denominator as u32,
-            click as u32,
-            notes as u32,
-            sheet,
-        ),
-        _ => put_three_columns(out, at, kind, sheet),
+        } => put_byte_fields(out, at, &[numerator, denominator, click, notes], sheet),
+        _ => put_few_columns(out, at, kind, sheet),
     }
 }
 
@@ -196,31 +135,16 @@ fn put_body(out: &mut [u8], at: usize, kind: EventKind, body: &[u8], sheet: bool
         EventKind::Text { start, len, .. } => put_text_field(
             out,
             at,
-            event::number::event_data(body, start, len),
+            event_data(body, start, len),
             sheet,
         ),
-        EventKind::SystemExclusive { start, len } => put_sized(
+        EventKind::SystemExclusive { start, len }
+        | EventKind::SystemExclusivePacket { start, len }
+        | EventKind::SequencerSpecific { start, len }
+        | EventKind::UnknownMeta { start, len, .. } => put_sized(
             out,
             at,
-            event::number::event_data(body, start, len),
-            sheet,
-        ),
-        EventKind::SystemExclusivePacket { start, len } => put_sized(
-            out,
-            at,
-            event::number::event_data(body, start, len),
-            sheet,
-        ),
-        EventKind::SequencerSpecific { start, len } => put_sized(
-            out,
-            at,
-            event::number::event_data(body, start, len),
-            sheet,
-        ),
-        EventKind::UnknownMeta { start, len, .. } => put_sized(
-            out,
-            at,
-            event::number::event_data(body, start, len),
+            event_data(body, start, len),
             sheet,
         ),
         _ => at,
@@ -253,42 +177,28 @@ pub fn put_event_line(
 {
     let t = time.0;
     let p = put_line_start(out, at, track, t, sheet);
-    let q = midicsv::name::put_event_name(out, p, kind);
+    let q = put_event_name(out, p, kind);
     let r = put_columns(out, q, kind, sheet);
     let s = put_body(out, r, kind, body, sheet);
-    put_byte(out, s, 10)
+    put_byte(out, s, b'\n')
 }
 
-// Start_track of the track so numbered, and End_of_file.
+// Start_track of the track so numbered.
 pub fn put_start_line(out: &mut [u8], at: usize, track: u32, sheet: bool) -> usize
     requires { at < 2 ^ 42 }
     ensures { Written out.old at (line (form_of sheet) (mark start_track track)) out.new result }
 {
-    let p = put_decimal(out, at, track);
-    if sheet {
-        return put_bytes(out, p, b",0,Start_track\n");
-    }
-    put_bytes(out, p, b", 0, Start_track\n")
+    let p = put_line_start(out, at, track, 0, sheet);
+    put_bytes(out, p, b"Start_track\n")
 }
 
+// End_of_file, which ends a text.
 pub fn put_end_line(out: &mut [u8], at: usize, sheet: bool) -> usize
     requires { at < 2 ^ 42 }
     ensures { Written out.old at (line (form_of sheet) (mark end_of_file 0)) out.new result }
 {
-    if sheet {
-        return put_bytes(out, at, b"0,0,End_of_file\n");
-    }
-    put_bytes(out, at, b"0, 0, End_of_file\n")
-}
-
-// The beginning of the Header's line.
-fn put_header_start(out: &mut [u8], sheet: bool) -> usize
-    ensures { Written out.old 0 (header_start (form_of sheet)) out.new result }
-{
-    if sheet {
-        return put_bytes(out, 0, b"0,0,Header");
-    }
-    put_bytes(out, 0, b"0, 0, Header")
+    let p = put_line_start(out, at, 0, 0, sheet);
+    put_bytes(out, p, b"End_of_file\n")
 }
 
 // The Header's line, which begins a text.
@@ -296,8 +206,10 @@ pub fn put_header_line(out: &mut [u8], format: u32, count: u32, bits: u32, sheet
     requires { bits ≤ 65535 }
     ensures { Written out.old 0 (line (form_of sheet) (header_for format count bits)) out.new result }
 {
-    let p = put_header_start(out, sheet);
-    let q = put_two_fields(out, p, format, count, sheet);
-    let r = put_signed_field(out, q, bits, 32768, 65536, sheet);
-    put_byte(out, r, 10)
+    let p = put_line_start(out, 0, 0, 0, sheet);
+    let q = put_bytes(out, p, b"Header");
+    let r = put_number_field(out, q, format, sheet);
+    let s = put_number_field(out, r, count, sheet);
+    let t = put_signed_field(out, s, bits, 32768, 65536, sheet);
+    put_byte(out, t, b'\n')
 }

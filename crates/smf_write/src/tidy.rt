@@ -14,7 +14,7 @@ ghost use Rattle.smf_write.specs.Tidy.{step_of, events_in, track_in, tracks_in};
 
 use event::refusal::Refusal;
 use event::{Cursor, Delta, EventKind, Time};
-use event_write::bytes::{put_bytes, put_four, put_two};
+use event_write::bytes::{put_big_endian, put_bytes};
 use smf::{Answer, HEADER_TAG, HeaderRead, TRACK_TAG};
 
 // The longest file that is written, in bytes.
@@ -78,11 +78,11 @@ fn put_track(out: &mut [u8], at: usize, body: &[u8], short: bool) -> usize
     requires fact_3 { Readable (read_all 0 0 0 body.now) }
     ensures { Written out.old at (track_in (manner_of short) (value_or [] (read_all 0 0 0 body.now))) out.new result }
 {
-    let p = put_four(out, at, TRACK_TAG);
-    let q = put_four(out, p, 0);
+    let p = put_big_endian::<4>(out, at, TRACK_TAG);
+    let q = put_big_endian::<4>(out, p, 0);
     let end = put_events(out, q, body, short);
     let size = (end - q) as u32;
-    put_four(out, p, size);
+    put_big_endian::<4>(out, p, size);
     end
 }
 
@@ -123,11 +123,11 @@ fn put_file(out: &mut [u8], file: &[u8], header: HeaderRead, short: bool) -> usi
     ensures { Written out.old 0 (file_of (manner_of short) (piece_read file.now)) out.new result }
 {
     let bits = smf::header::division_bits(header.division);
-    let a = put_four(out, 0, HEADER_TAG);
-    let b = put_four(out, a, 6);
-    let c = put_two(out, b, header.format);
-    let d = put_two(out, c, header.count);
-    let e = put_two(out, d, bits);
+    let a = put_big_endian::<4>(out, 0, HEADER_TAG);
+    let b = put_big_endian::<4>(out, a, 6);
+    let c = put_big_endian::<2>(out, b, header.format);
+    let d = put_big_endian::<2>(out, c, header.count);
+    let e = put_big_endian::<2>(out, d, bits);
     put_tracks(out, e, file, header.count, header.next, short)
 }
 

@@ -4,4 +4,4 @@ use Rattle.event_write.proofs.head.put_meta.Goals as goal
 
 pub returns : goal.returns
 unfolding meta_bytes
-returns c = then c.put_byte-p.ensures (then c.put_byte-q.ensures c.put_number.ensures)
+returns c = then c.put_bytes-p.ensures c.put_length.ensures

@@ -1,33 +1,18 @@
-use Prim.Native.Nat.{◌+◌, ◌-◌}
-use lib.ListN.{length}
-use Rattle.midicsv.proofs.TruthLaws.{word_found, word_other, row_over}
-use native.Mathlib.Omega.{arith}
-use mathlib.Core.Path.{◌≡◌, refl, sym, ◌∙◌}
+use Rattle.std.proofs.Common.{◌≡◌, ℕ, ◌+◌, ◌*◌, ◌≤◌, true, false, length, take, drop, rules, arith}
+use Rattle.std.proofs.lemmas.Grind.{common_steps}
+use Rattle.std.specs.Iterator.Runs.{IsChunksExactRun, AllItems}
+use Rattle.midicsv.specs.Names.{same_name}
+use Rattle.midicsv.proofs.TruthLaws.{among_told, chunks_lack}
 use Rattle.midicsv.proofs.truth.among.Goals as goal
-
-pub loop-at-init : goal.loop-at-init
-loop-at-init c = (omega arith, refl)
-
-pub returns-then-same_name : goal.returns-then-same_name
-returns-then-same_name c =
-    let l = c.loop-at in
-    let a = c.args in
-    let n = length a.word.now in
-    let part : (l.at + n) - l.at ≡ n = omega arith in
-    let same = rw part at c.same_name.ensures in
-    sym (word_found a.word.now a.words.now l.at c.requires c.loop-at-test.true (sym same ∙ c.if-same_name.true)) ∙ l.invariant.1
-
-pub loop-at-preserved : goal.loop-at-preserved
-loop-at-preserved c =
-    let l = c.loop-at in
-    let a = c.args in
-    let n = length a.word.now in
-    let part : (l.at + n) - l.at ≡ n = omega arith in
-    let same = rw part at c.same_name.ensures in
-    (omega arith, sym (word_other a.word.now a.words.now l.at c.requires c.loop-at-test.true (sym same ∙ c.if-same_name.false)) ∙ l.invariant.1)
 
 pub returns : goal.returns
 returns c =
-    let l = c.loop-at in
-    let a = c.args in
-    sym (row_over a.word.now a.words.now l.at c.requires (omega arith)) ∙ l.invariant.1
+    let d = c.args.word.now in
+    let l = c.args.words.now in
+    let n = length d in
+    let p = c.any.ensures.runs.0 in
+    let chunks : IsChunksExactRun p n l = grind (arith, common_steps) in
+    let whole : c.any.result ≡ false → p.whole ≡ true = λ e. grind (arith, common_steps) in
+    let none : c.any.result ≡ false → AllItems p (λ x. same_name d x.now ≡ false) = λ e. grind (arith, common_steps) in
+    let found : c.any.result ≡ true → (k : ℕ) × ((k * n + n ≤ length l) × (same_name d (take n (drop (k * n) l)) ≡ true)) = λ e. search rules in
+    among_told c.any.result d l c.requires found (λ e. chunks_lack p d l chunks (whole e) (none e))

@@ -1,3 +1,4 @@
+use Rattle.std.proofs.Common.{arith}
 use Rattle.event.specs.Choice.{pick}
 use Rattle.midicsv.specs.TruthWords.{words2, words3, words4, words5, words6, words7, words8, words9, words10, words11, words12, truth_words}
 use Rattle.midicsv.specs.Code.Words.{words_for, words_in}
@@ -50,4 +51,4 @@ unfolding sized truth_words words_in words_for pick
 returns-in-12 c = c.among-in-12.ensures ∙ in_row_lem 12 _ words12 c.in-12.is refl
 
 pub returns-in_default : goal.returns-in_default
-returns-in_default c = no_length c.args.word.now c.in_default.in_default-own.rest
+returns-in_default c = no_length c.args.word.now (λ two. omega arith)

@@ -22,7 +22,7 @@ returns-then-is_end c = let a = c.args in
     let row = record_in l a.row in
     let ends = sym (ap end_of c.row_kind-kind.ensures) ∙ sym c.is_end.ensures ∙ c.if-is_end.true in
     let n = row_length (manner_of a.short) a.st.force a.delta.0 l a.row c.requires.fact_2.start c.requires.fact_2.len in
-    record { fact_1 = event_ended (manner_of a.short) a.st _ row.track row.time row.values row.name _ _ a.row.start _ _ _ _ c.requires.fact_3 (line_given l row bytes c.requires.fact_2.reads) c.requires.fact_2.short c.requires.fact_4 c.put_row-at.ensures ends c.put_four.ensures; fact_2 = omega (arith, c.put_row-at.ensures.place, n) }
+    record { fact_1 = event_ended (manner_of a.short) a.st _ row.track row.time row.values row.name _ _ a.row.start _ _ _ _ c.requires.fact_3 (line_given l row bytes c.requires.fact_2.reads) c.requires.fact_2.short c.requires.fact_4 c.put_row-at.ensures ends c.put_big_endian.ensures; fact_2 = omega (arith, c.put_row-at.ensures.place, n) }
 
 pub returns : goal.returns
 returns c = let a = c.args in

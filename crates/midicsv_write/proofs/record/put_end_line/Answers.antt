@@ -1,11 +1,11 @@
+use Rattle.std.proofs.Common.{arith}
+use Rattle.event_write.proofs.WriteLaws.{then}
 use Rattle.midicsv.specs.Code.Form.{form_of}
-use Rattle.midicsv_write.proofs.LineLaws.{end_line_lem, end_line}
+use Rattle.midicsv_write.proofs.LineLaws.{end_line, start_length}
 use Rattle.midicsv_write.proofs.record.put_end_line.Goals as goal
 
-pub returns-then-sheet : goal.returns-then-sheet
-unfolding form_of end_line_lem
-returns-then-sheet c = rw (← end_line (form_of c.args.sheet), c.if-sheet.true) c.put_bytes.ensures
+pub put_bytes-requires-clause-fact_1 : goal.put_bytes-requires-clause-fact_1
+put_bytes-requires-clause-fact_1 c = omega (arith, c.put_line_start-p.ensures.place, start_length (form_of c.args.sheet) 0 0)
 
 pub returns : goal.returns
-unfolding form_of end_line_lem
-returns c = rw (← end_line (form_of c.args.sheet), c.if-sheet.false) c.put_bytes-2.ensures
+returns c = rw (end_line (form_of c.args.sheet)) at (then c.put_line_start-p.ensures c.put_bytes.ensures)

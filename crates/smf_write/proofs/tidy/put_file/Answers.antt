@@ -17,24 +17,24 @@ division_bits-bits-requires c = let s = c.args.file.now in
     let came = sym c.requires.header in
     (headed s c.args.header.format c.args.header.count c.args.header.division c.args.header.next bytes came (file_accepted s c.args.header.format c.args.header.count c.args.header.division c.args.header.next bytes came c.requires.readable)).lawful
 
-pub put_four-b-requires : goal.put_four-b-requires
-put_four-b-requires c = omega (arith, c.put_four-a.ensures.place, length_big_endian 4 header_tag)
+pub put_big_endian-b-requires-clause-fact_1 : goal.put_big_endian-b-requires-clause-fact_1
+put_big_endian-b-requires-clause-fact_1 c = omega (arith, c.put_big_endian-a.ensures.place, length_big_endian 4 header_tag)
 
-pub put_two-c-requires : goal.put_two-c-requires
-put_two-c-requires c = omega (arith, c.put_four-b.ensures.place, c.put_four-a.ensures.place, length_big_endian 4 header_tag, length_big_endian 4 6)
+pub put_big_endian-c-requires-clause-fact_1 : goal.put_big_endian-c-requires-clause-fact_1
+put_big_endian-c-requires-clause-fact_1 c = omega (arith, c.put_big_endian-b.ensures.place, c.put_big_endian-a.ensures.place, length_big_endian 4 header_tag, length_big_endian 4 6)
 
-pub put_two-d-requires : goal.put_two-d-requires
-put_two-d-requires c = omega (arith, c.put_two-c.ensures.place, length_big_endian 2 c.args.header.format, c.put_four-b.ensures.place, c.put_four-a.ensures.place, length_big_endian 4 header_tag, length_big_endian 4 6)
+pub put_big_endian-d-requires : goal.put_big_endian-d-requires
+put_big_endian-d-requires c = omega (arith, c.put_big_endian-c.ensures.place, length_big_endian 2 c.args.header.format, c.put_big_endian-b.ensures.place, c.put_big_endian-a.ensures.place, length_big_endian 4 header_tag, length_big_endian 4 6)
 
-pub put_two-e-requires : goal.put_two-e-requires
-put_two-e-requires c = omega (arith, c.put_two-d.ensures.place, length_big_endian 2 c.args.header.count, c.put_two-c.ensures.place, length_big_endian 2 c.args.header.format, c.put_four-b.ensures.place, c.put_four-a.ensures.place, length_big_endian 4 header_tag, length_big_endian 4 6)
+pub put_big_endian-e-requires : goal.put_big_endian-e-requires
+put_big_endian-e-requires c = omega (arith, c.put_big_endian-d.ensures.place, length_big_endian 2 c.args.header.count, c.put_big_endian-c.ensures.place, length_big_endian 2 c.args.header.format, c.put_big_endian-b.ensures.place, c.put_big_endian-a.ensures.place, length_big_endian 4 header_tag, length_big_endian 4 6)
 
 pub put_tracks-requires : goal.put_tracks-requires
 put_tracks-requires c = let s = c.args.file.now in
     let bytes = bytes_of s (λ i. omega (arith, c.type_inv.file i)) in
     let came = sym c.requires.header in
     let there = file_accepted s c.args.header.format c.args.header.count c.args.header.division c.args.header.next bytes came c.requires.readable in
-    record { fact_1 = omega (arith, c.put_two-e.ensures.place, length_big_endian 2 c.division_bits-bits.result, c.put_two-d.ensures.place, length_big_endian 2 c.args.header.count, c.put_two-c.ensures.place, length_big_endian 2 c.args.header.format, c.put_four-b.ensures.place, c.put_four-a.ensures.place, length_big_endian 4 header_tag, length_big_endian 4 6); fact_2 = (head_at s c.args.header.format c.args.header.count c.args.header.division c.args.header.next bytes came).inside; fact_3 = c.requires.small; fact_4 = accepted_readable s c.args.header.count c.args.header.next there }
+    record { fact_1 = omega (arith, c.put_big_endian-e.ensures.place, length_big_endian 2 c.division_bits-bits.result, c.put_big_endian-d.ensures.place, length_big_endian 2 c.args.header.count, c.put_big_endian-c.ensures.place, length_big_endian 2 c.args.header.format, c.put_big_endian-b.ensures.place, c.put_big_endian-a.ensures.place, length_big_endian 4 header_tag, length_big_endian 4 6); fact_2 = (head_at s c.args.header.format c.args.header.count c.args.header.division c.args.header.next bytes came).inside; fact_3 = c.requires.small; fact_4 = accepted_readable s c.args.header.count c.args.header.next there }
 
 pub returns : goal.returns
 unfolding lay_header lay_division
@@ -44,4 +44,4 @@ returns c = let a = c.args in
     let came = sym c.requires.header in
     let there = file_accepted s c.args.header.format c.args.header.count c.args.header.division c.args.header.next bytes came c.requires.readable in
     rw (file_bytes (manner_of a.short) s c.args.header.format c.args.header.count c.args.header.division c.args.header.next bytes came there, ← c.division_bits-bits.ensures)
-    (then c.put_four-a.ensures (then c.put_four-b.ensures (then c.put_two-c.ensures (then c.put_two-d.ensures (then c.put_two-e.ensures c.put_tracks.ensures)))))
+    (then c.put_big_endian-a.ensures (then c.put_big_endian-b.ensures (then c.put_big_endian-c.ensures (then c.put_big_endian-d.ensures (then c.put_big_endian-e.ensures c.put_tracks.ensures)))))
