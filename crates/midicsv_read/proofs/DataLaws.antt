@@ -7,7 +7,7 @@ use lib.ListN.{length, drop}
 use lib.Seq.{drop-length}
 use Rattle.event.specs.Outcome.{ok, refused}
 use Rattle.event_write.specs.Written.{Written}
-use Rattle.event_write.proofs.WriteLaws.{Remains, all_remains, go_on_lem, done}
+use Rattle.event_write.proofs.WriteLaws.{Remains, go_on_lem, done}
 use Rattle.midicsv.specs.Field.{Field}
 use Rattle.midicsv.specs.ReadField.{read_field}
 use Rattle.midicsv_record.specs.Row.{byte_in, after_field, data_from}
@@ -69,9 +69,6 @@ data_cons n l = refl
 pub record DataLeft (l old : List ℕ) (at : ℕ) (whole new : List ℕ) (next place left : ℕ) : Type 0 where
   pub inside : place ≤ length l
   pub remains : Remains old at whole new next (data_from left (drop place l))
-
-pub data_first : (l old : List ℕ) (at start len : ℕ) → start ≤ length l → DataLeft l old at (data_from len (drop start l)) old at start len
-data_first l old at start len h = record { inside = h; remains = all_remains old at (data_from len (drop start l)) }
 
 pub data_on : {old whole mid new : List ℕ} {at m next : ℕ} (l : List ℕ) (place left : ℕ) (s : DataStep) → DataLeft l old at whole mid m place (suc left)
     → DataIs l place s → Written mid m (s.byte ∷ []) new next → DataLeft l old at whole new next s.next left

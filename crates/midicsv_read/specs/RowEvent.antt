@@ -53,23 +53,27 @@ is_event start_track = false
 is_event end_of_file = false
 is_event (event g) = true
 
--- how the code parts the names: channel events, texts, and the rest
+-- how the code parts the names: channel events of three numbers and of two, texts, events with Data, and the rest
 abbrev pub part_of : Name → ℕ
 part_of Name.NoteOff = 0
 part_of Name.NoteOn = 0
 part_of Name.PolyAftertouch = 0
 part_of Name.Control = 0
-part_of Name.Program = 0
-part_of Name.ChannelAftertouch = 0
-part_of Name.PitchBend = 0
-part_of Name.Text = 1
-part_of Name.Copyright = 1
-part_of Name.Title = 1
-part_of Name.InstrumentName = 1
-part_of Name.Lyric = 1
-part_of Name.Marker = 1
-part_of Name.CuePoint = 1
-part_of n = 2
+part_of Name.Program = 1
+part_of Name.ChannelAftertouch = 1
+part_of Name.PitchBend = 1
+part_of Name.Text = 2
+part_of Name.Copyright = 2
+part_of Name.Title = 2
+part_of Name.InstrumentName = 2
+part_of Name.Lyric = 2
+part_of Name.Marker = 2
+part_of Name.CuePoint = 2
+part_of Name.SystemExclusive = 3
+part_of Name.SystemExclusivePacket = 3
+part_of Name.SequencerSpecific = 3
+part_of Name.UnknownMetaEvent = 3
+part_of n = 4
 
 -- the event of a row with len data bytes
 abbrev pub row_kind : Row → ℕ → EventKind

@@ -24,9 +24,9 @@ fn byte(n: u32) -> u8
     (n % 256) as u8
 }
 
-// The channel events.
+// The channel events of three numbers.
 #[tactic(auto, unfolding(crate::specs::RowEvent::event_kind, crate::specs::RowEvent::kind_numbered), using(crate::proofs::RowEventLaws::kind_cut))]
-fn channel_kind(row: Row, len: usize) -> EventKind
+fn triple_kind(row: Row, len: usize) -> EventKind
     requires { part_of row.name ≡ 0 }
     ensures { result ≡ row_kind row len }
 {
@@ -34,7 +34,6 @@ fn channel_kind(row: Row, len: usize) -> EventKind
     let channel = byte(first);
     let key = byte(second);
     let value = byte(third);
-    let bend = (second % 65536) as u16;
     match row.name {
         Name::NoteOff => EventKind::NoteOff {
             channel,
@@ -51,22 +50,32 @@ fn channel_kind(row: Row, len: usize) -> EventKind
             key,
             value,
         },
-        Name::Control => EventKind::Control {
+        _ => EventKind::Control {
             channel,
             controller: key,
             value,
         },
+    }
+}
+
+// The channel events of two numbers.
+#[tactic(auto, unfolding(crate::specs::RowEvent::event_kind, crate::specs::RowEvent::kind_numbered), using(crate::proofs::RowEventLaws::kind_cut))]
+fn pair_kind(row: Row, len: usize) -> EventKind
+    requires { part_of row.name ≡ 1 }
+    ensures { result ≡ row_kind row len }
+{
+    let [first, second, ..] = row.columns;
+    let channel = byte(first);
+    let value = byte(second);
+    match row.name {
         Name::Program => EventKind::Program {
             channel,
-            number: key,
+            number: value,
         },
-        Name::ChannelAftertouch => EventKind::ChannelAftertouch {
-            channel,
-            value: key,
-        },
+        Name::ChannelAftertouch => EventKind::ChannelAftertouch { channel, value },
         _ => EventKind::PitchBend {
             channel,
-            value: bend,
+            value: (second % 65536) as u16,
         },
     }
 }
@@ -74,7 +83,7 @@ fn channel_kind(row: Row, len: usize) -> EventKind
 // The texts.
 #[tactic(auto, unfolding(crate::specs::RowEvent::event_kind, crate::specs::RowEvent::kind_numbered), using(crate::proofs::RowEventLaws::kind_cut))]
 fn text_kind(row: Row, len: usize) -> EventKind
-    requires { part_of row.name ≡ 1 }
+    requires { part_of row.name ≡ 2 }
     ensures { result ≡ row_kind row len }
 {
     let kind = match row.name {
@@ -93,10 +102,27 @@ fn text_kind(row: Row, len: usize) -> EventKind
     }
 }
 
-// The system exclusive events and the metas but the texts; End_track stands for what is no event too.
+// The events with Data.
+#[tactic(auto, unfolding(crate::specs::RowEvent::event_kind, crate::specs::RowEvent::kind_numbered), using(crate::proofs::RowEventLaws::kind_cut))]
+fn data_kind(row: Row, len: usize) -> EventKind
+    requires { part_of row.name ≡ 3 }
+    ensures { result ≡ row_kind row len }
+{
+    let [first, ..] = row.columns;
+    let kind = byte(first);
+    let start = row.start;
+    match row.name {
+        Name::SystemExclusive => EventKind::SystemExclusive { start, len },
+        Name::SystemExclusivePacket => EventKind::SystemExclusivePacket { start, len },
+        Name::SequencerSpecific => EventKind::SequencerSpecific { start, len },
+        _ => EventKind::UnknownMeta { kind, start, len },
+    }
+}
+
+// The metas of numbers, and End_track, which stands for what is no event too.
 #[tactic(auto, unfolding(crate::specs::RowEvent::event_kind, crate::specs::RowEvent::kind_numbered), using(crate::proofs::RowEventLaws::kind_cut))]
 fn meta_kind(row: Row, len: usize) -> EventKind
-    requires { part_of row.name ≡ 2 }
+    requires { part_of row.name ≡ 4 }
     ensures { result ≡ row_kind row len }
 {
     let [first, second, third, fourth, fifth] = row.columns;
@@ -104,11 +130,7 @@ fn meta_kind(row: Row, len: usize) -> EventKind
     let second = byte(second);
     let third = byte(third);
     let fourth = byte(fourth);
-    let fifth = byte(fifth);
-    let start = row.start;
     match row.name {
-        Name::SystemExclusive => EventKind::SystemExclusive { start, len },
-        Name::SystemExclusivePacket => EventKind::SystemExclusivePacket { start, len },
         Name::SequenceNumber => EventKind::SequenceNumber { number: first },
         Name::ChannelPrefix => EventKind::ChannelPrefix { number },
         Name::MidiPort => EventKind::MidiPort { number },
@@ -118,7 +140,7 @@ fn meta_kind(row: Row, len: usize) -> EventKind
             minute: second,
             second: third,
             frame: fourth,
-            part: fifth,
+            part: byte(fifth),
         },
         Name::TimeSignature => EventKind::TimeSignature {
             numerator: number,
@@ -130,12 +152,6 @@ fn meta_kind(row: Row, len: usize) -> EventKind
             key: number,
             minor: second,
         },
-        Name::SequencerSpecific => EventKind::SequencerSpecific { start, len },
-        Name::UnknownMetaEvent => EventKind::UnknownMeta {
-            kind: number,
-            start,
-            len,
-        },
         _ => EventKind::EndTrack,
     }
 }
@@ -146,11 +162,13 @@ pub fn row_kind(row: Row, len: usize) -> EventKind
 {
     match row.name {
         Name::NoteOff | Name::NoteOn | Name::PolyAftertouch | Name::Control => {
-            channel_kind(row, len)
+            triple_kind(row, len)
         }
-        Name::Program | Name::ChannelAftertouch | Name::PitchBend => channel_kind(row, len),
+        Name::Program | Name::ChannelAftertouch | Name::PitchBend => pair_kind(row, len),
         Name::Text | Name::Copyright | Name::Title | Name::InstrumentName => text_kind(row, len),
         Name::Lyric | Name::Marker | Name::CuePoint => text_kind(row, len),
+        Name::SystemExclusive | Name::SystemExclusivePacket => data_kind(row, len),
+        Name::SequencerSpecific | Name::UnknownMetaEvent => data_kind(row, len),
         _ => meta_kind(row, len),
     }
 }
