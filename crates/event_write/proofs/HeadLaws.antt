@@ -18,7 +18,7 @@ use Rattle.event.specs.Step.{kind_at}
 use Rattle.event.proofs.NumberLaws.{limit_most}
 use Rattle.event.proofs.DataLaws.{frame_data}
 use Rattle.event_write.specs.Head.{fewest, status_bytes, meta_bytes, long_bytes, tail_bytes, head_bytes, data_of}
-use Rattle.event_write.proofs.NumberLaws.{fewest_length, fewest_low, fewest_is}
+use Rattle.event_write.proofs.NumberLaws.{fewest_length, fewest_is}
 
 -- ---- how long they are
 

@@ -15,7 +15,7 @@ use Rattle.event.specs.declared.EventKind.TheVariants.{NoteOff, NoteOn, PolyAfte
 use Rattle.event.proofs.ChoiceLaws.{by_test}
 use Rattle.event_write.specs.Written.{Written}
 use Rattle.event_write.proofs.DataLaws.{data_length}
-use Rattle.midicsv.specs.Field.{bytes, decimal, Field, num}
+use Rattle.midicsv.specs.Field.{bytes, digits_of, decimal, Field, num}
 use Rattle.midicsv.specs.Show.{Form, gap, show, joined, further, line_of}
 use Rattle.midicsv.specs.Table.{EventName, note_off_name, note_on_name, poly_aftertouch_name, control_change_name, program_change_name, channel_aftertouch_name, pitch_bend_name, system_exclusive_name, system_exclusive_packet_name, sequence_number_name, words, channel_prefix_name, midi_port_name, end_track_name, set_tempo_name, smpte_offset_name, time_signature_name, key_signature_name, sequencer_specific_name, unknown_meta_name, start_track, end_of_file, event_spelled, spelled, Column, range, key, mode, free_type, division, Tail, none, one_text, sized, event_shape, shape}
 use Rattle.midicsv.specs.Record.{Record, signed_field, column_field, tail_fields, fields_of, record_line, name_of, values_of}
@@ -206,14 +206,18 @@ unfolding spelled shape fields_of tail_fields column_field
 header_line w a b c =
     ap (λ z. start_of w 0 0 ++ (bytes "Header" ++ z)) (three_fields w (num a) (num b) (signed_field 32768 65536 c) (10 ∷ [])) ∙ named_line w (header_for a b c)
 
-pub start_line_length : (w : Form) (n : ℕ) → length (line w (mark start_track n)) ≤ 36
-unfolding show
-start_line_length w n = rw (← start_line w n) (simp length-append (omega (arith, decimal_length n, decimal_length 0, gap_length w)))
+zero_length : length (decimal 0) ≡ 1
+unfolding decimal digits_of pick
+zero_length = refl
 
-pub header_line_length : (w : Form) (a b c : ℕ) → length (line w (header_for a b c)) ≤ 68
+pub start_line_length : (w : Form) (n : ℕ) → length (line w (mark start_track n)) ≤ 28
+unfolding show
+start_line_length w n = rw (← start_line w n) (simp length-append (omega (arith, decimal_length n, zero_length, gap_length w)))
+
+pub header_line_length : (w : Form) (a b c : ℕ) → length (line w (header_for a b c)) ≤ 50
 unfolding show
 header_line_length w a b c =
-    rw (← header_line w a b c) (simp length-append (omega (arith, decimal_length 0, decimal_length a, decimal_length b, gap_length w, signed_length w 32768 65536 c)))
+    rw (← header_line w a b c) (simp length-append (omega (arith, zero_length, decimal_length a, decimal_length b, gap_length w, signed_length w 32768 65536 c)))
 
 whole_line : (w : Form) (track : ℕ) (e : Event) → start_of w track e.time ++ (event_spelled (name_of e.kind) ++ (further w (column_fields e.kind) ++ (further w (body_fields e.kind) ++ (10 ∷ []))))
     ≡ line w (event_record track e)
