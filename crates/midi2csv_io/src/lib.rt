@@ -5,6 +5,7 @@
 ghost use Rattle.std.specs.Prelude.{◌≡◌, length};
 ghost use Rattle.midi2csv_io.specs.Program.{program_answer, program_leaves};
 
+use event::refusal::Refusal;
 use program_io::read_full;
 use smf::Answer;
 use std::io;
@@ -23,7 +24,7 @@ fn limited_text(file: &[u8], room: &mut [u8]) -> Answer
     ensures leaves { room.new ≡ program_leaves file.now room.old }
 {
     if 16384 < file.len() {
-        return Answer::refusal(1, 0);
+        return Answer::refuse(Refusal::FileTooLong, 0);
     }
     midicsv_write::to_text::file_to_text(file, room)
 }

@@ -61,16 +61,16 @@ pub fn text_to_file(text: &[u8], manner: u32, out: &mut [u8]) -> Answer
     ensures fact_2 { out.new ≡ file_leaves text.now manner out.old }
 {
     if 1 < manner {
-        return Answer::refusal(Refusal::BadManner.number(), 0);
+        return Answer::refuse(Refusal::BadManner, 0);
     }
     if TEXT_LIMIT < text.len() {
-        return Answer::refusal(Refusal::TextTooLong.number(), 0);
+        return Answer::refuse(Refusal::TextTooLong, 0);
     }
     match pass(&mut out[..0], text, manner == 1) {
-        Err(stopped) => Answer::refusal(stopped.refusal.number(), stopped.line),
+        Err(stopped) => Answer::refuse(stopped.refusal, stopped.line),
         Ok(need) => {
             if FILE_LIMIT < need {
-                return Answer::refusal(Refusal::WrittenTooLong.number(), 0);
+                return Answer::refuse(Refusal::WrittenTooLong, 0);
             }
             if out.len() < need {
                 return Answer::room_needed(need);

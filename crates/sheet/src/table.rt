@@ -88,7 +88,7 @@ pub fn sheet_to_text(saved: &[u8], out: &mut [u8]) -> Answer
     ensures fact_2 { out.new ≡ table_leaves saved.now out.old }
 {
     if TABLE_LIMIT < saved.len() {
-        return Answer::refusal(Refusal::TableTooLong.number(), 0);
+        return Answer::refuse(Refusal::TableTooLong, 0);
     }
     let most = 2 * saved.len() + 2;
     if most <= TEXT_LIMIT && most <= out.len() {
@@ -97,7 +97,7 @@ pub fn sheet_to_text(saved: &[u8], out: &mut [u8]) -> Answer
     }
     let need = put_table(&mut out[..0], saved);
     if TEXT_LIMIT < need {
-        return Answer::refusal(Refusal::TextTooLong.number(), 0);
+        return Answer::refuse(Refusal::TextTooLong, 0);
     }
     if out.len() < need {
         return Answer::room_needed(need);

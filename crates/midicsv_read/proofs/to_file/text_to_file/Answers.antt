@@ -7,20 +7,20 @@ pub returns-then-manner-gt1 : goal.returns-then-manner-gt1
 unfolding passed_as
 returns-then-manner-gt1 c = let a = c.args in
     let w = wrong_manner a.text.now a.manner a.out.now c.if-manner-gt1.true in
-    record { fact_1 = (rw c.number.ensures at c.refusal.ensures) ∙ w.0; fact_2 = w.1 }
+    record { fact_1 = c.refuse.ensures ∙ w.0; fact_2 = w.1 }
 
 pub returns-then-text-gt-TEXT_LIMIT : goal.returns-then-text-gt-TEXT_LIMIT
 unfolding passed_as
 returns-then-text-gt-TEXT_LIMIT c = let a = c.args in
     let w = long_text_lem a.text.now a.manner a.out.now c.if-manner-gt1.false c.if-text-gt-TEXT_LIMIT.true in
-    record { fact_1 = (rw c.number-then-text-gt-TEXT_LIMIT.ensures at c.refusal-then-text-gt-TEXT_LIMIT.ensures) ∙ w.0; fact_2 = w.1 }
+    record { fact_1 = c.refuse-then-text-gt-TEXT_LIMIT.ensures ∙ w.0; fact_2 = w.1 }
 
 pub returns-then-need-gt-FILE_LIMIT : goal.returns-then-need-gt-FILE_LIMIT
 unfolding passed_as
 returns-then-need-gt-FILE_LIMIT c = let a = c.args in
     let none = no_room c.pass.new.out c.pass.auto.out in
     let w = long_file a.text.now a.manner a.out.now c.if-manner-gt1.false c.if-text-gt-TEXT_LIMIT.false _ c.in-Ok.ensures.fact_1 c.if-need-gt-FILE_LIMIT.true in
-    record { fact_1 = (rw c.number-then-need-gt-FILE_LIMIT.ensures at c.refusal-then-need-gt-FILE_LIMIT.ensures) ∙ w.0; fact_2 = rw none w.1 }
+    record { fact_1 = c.refuse-then-need-gt-FILE_LIMIT.ensures ∙ w.0; fact_2 = rw none w.1 }
 
 pub returns-then-out-need : goal.returns-then-out-need
 unfolding passed_as
@@ -34,7 +34,7 @@ unfolding passed_as
 returns-in-Err c = let a = c.args in
     let none = no_room c.pass.new.out c.pass.auto.out in
     let w = refused_text a.text.now a.manner a.out.now c.if-manner-gt1.false c.if-text-gt-TEXT_LIMIT.false _ _ c.in-Err.ensures.fact_1 in
-    record { fact_1 = (rw c.number-in-Err.ensures at c.refusal-in-Err.ensures) ∙ w.0; fact_2 = rw none w.1 }
+    record { fact_1 = c.refuse-in-Err.ensures ∙ w.0; fact_2 = rw none w.1 }
 
 pub returns-else-out-need : goal.returns-else-out-need
 unfolding passed_as

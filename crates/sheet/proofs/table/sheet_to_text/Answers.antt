@@ -11,7 +11,7 @@ pub returns-then-saved-gt-TABLE_LIMIT : goal.returns-then-saved-gt-TABLE_LIMIT
 returns-then-saved-gt-TABLE_LIMIT c =
     let a = c.args in
     let w = long_table a.saved.now a.out.now c.if-saved-gt-TABLE_LIMIT.true in
-    record { fact_1 = (rw c.number.ensures at c.refusal.ensures) ∙ w.0; fact_2 = w.1 }
+    record { fact_1 = c.refuse.ensures ∙ w.0; fact_2 = w.1 }
 
 pub returns-then-most-out : goal.returns-then-most-out
 returns-then-most-out c =
@@ -27,7 +27,7 @@ returns-then-need-gt-TEXT_LIMIT c =
     let a = c.args in
     let m = c.put_table-need.ensures in
     let w = long_text_lem a.saved.now a.out.now c.if-saved-gt-TABLE_LIMIT.false _ (measured m) c.if-need-gt-TEXT_LIMIT.true in
-    record { fact_1 = (rw c.number-then-need-gt-TEXT_LIMIT.ensures at c.refusal-then-need-gt-TEXT_LIMIT.ensures) ∙ w.0; fact_2 = unmeasured a.out.now m ∙ w.1 }
+    record { fact_1 = c.refuse-then-need-gt-TEXT_LIMIT.ensures ∙ w.0; fact_2 = unmeasured a.out.now m ∙ w.1 }
 
 pub returns-then-out-need : goal.returns-then-out-need
 returns-then-out-need c =
