@@ -142,20 +142,14 @@ fn put_tail(out: &mut [u8], at: usize, kind: EventKind, running: Running) -> usi
             controller,
             value,
         } => put_channel(out, at, 0xB0 + channel % 16, running, &[controller, value]),
-        EventKind::Program { channel, number } => put_channel(
-            out,
-            at,
-            0xC0 + channel % 16,
-            running,
-            &[number],
-        ),
-        EventKind::ChannelAftertouch { channel, value } => put_channel(
-            out,
-            at,
-            0xD0 + channel % 16,
-            running,
-            &[value],
-        ),
+        EventKind::Program { channel, number } => {
+            let status = 0xC0 + channel % 16;
+            put_channel(out, at, status, running, &[number])
+        }
+        EventKind::ChannelAftertouch { channel, value } => {
+            let status = 0xD0 + channel % 16;
+            put_channel(out, at, status, running, &[value])
+        }
         EventKind::PitchBend { channel, value } => {
             let low = (value % 128) as u8;
             let high = (value / 128 % 128) as u8;
