@@ -62,6 +62,7 @@ fn name_field(line: &[u8], at: usize) -> Option<FieldAt>
 }
 
 // The field from a place on, with the blanks round it.
+#[inline(always)]
 pub fn field_at(line: &[u8], at: usize) -> Option<FieldAt>
     requires { at ≤ length line.now }
     ensures fact_1 { field_as line.now result ≡ read_field (drop at line.now) }

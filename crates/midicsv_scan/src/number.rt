@@ -27,7 +27,9 @@ fn digits(line: &[u8], at: usize) -> Option<(u64, usize)>
     Some((value, line.len()))
 }
 
-// The number from a place on, and the place after it.
+// The number from a place on, and the place after it. Inline, as field_at is: an answer by way of memory cost the
+// scanner a fifth of its time.
+#[inline(always)]
 pub fn number_at(line: &[u8], at: usize) -> Option<(u32, usize)>
     requires { at ≤ length line.now }
     ensures fact_1 { number_as line.now result ≡ read_number (drop at line.now) }

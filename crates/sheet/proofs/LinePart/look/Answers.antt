@@ -5,20 +5,11 @@ use Rattle.sheet.proofs.LinePart.look.Goals as goal
 pub loop-cell-init : goal.loop-cell-init
 loop-cell-init c = looking_first _ _ _
 
-pub cell_at-requires : goal.cell_at-requires
-cell_at-requires c = c.loop-cell.invariant.inside
-
 pub returns-in_err-cell : goal.returns-in_err-cell
 returns-in_err-cell c = rw c.from_residual.ensures (looking_open c.loop-cell.invariant (cell_open _ _ _ _ c.in_err-cell.ensures))
 
 pub content-requires : goal.content-requires
 content-requires c = in_part (cell_found _ _ _ _ c.in_ok-cell.ensures)
-
-pub with_cell-row-requires : goal.with_cell-row-requires
-with_cell-row-requires c = omega (arith, c.loop-cell.invariant.few, c.loop-cell.invariant.inside)
-
-pub after_byte-at-requires : goal.after_byte-at-requires
-after_byte-at-requires c = c.if-self-cell.false
 
 pub returns-then-self-cell : goal.returns-then-self-cell
 returns-then-self-cell c = looking_last c.loop-cell.invariant c.with_cell-row.result (cell_found _ _ _ _ c.in_ok-cell.ensures) (rw (c.content.ensures.quoted, c.content.ensures.twice, c.content.ensures.bytes) at c.with_cell-row.ensures) c.if-self-cell.true

@@ -10,9 +10,6 @@ loop-i-init c = (refl, row_first _ _ _ _ _ _ _ c.requires.fact_2)
 pub put_comma-start-requires : goal.put_comma-start-requires
 put_comma-start-requires c = omega (arith, row_place c.loop-i.invariant.1 c.requires.fact_2, c.requires.fact_1, c.args.self.short)
 
-pub cell_at-requires : goal.cell_at-requires
-cell_at-requires c = c.loop-i.invariant.1.inside
-
 pub returns-in_default : goal.returns-in_default
 returns-in_default c = row_open c.loop-i.invariant.1 (cell_open _ _ _ _ c.in_default.ensures)
 

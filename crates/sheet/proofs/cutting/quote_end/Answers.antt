@@ -1,4 +1,4 @@
-use Rattle.sheet.proofs.CellLaws.{quoted_first, quoted_byte, quoted_pair, quoted_last, quoted_closes, quoted_end}
+use Rattle.sheet.proofs.CellLaws.{quoted_first, quoted_byte, quoted_pair, quoted_last, quoted_closes}
 use Rattle.sheet.proofs.cutting.quote_end.Goals as goal
 use Rattle.sheet.proofs.cutting.quote_end.Goals.{then-bytes-next-via-then-bytes-next, then-bytes-next-via-else-bytes-next+then-bytes-next-ne34}
 
@@ -18,6 +18,3 @@ returns-then-bytes-next c =
 
 pub loop-p-preserved : goal.loop-p-preserved
 loop-p-preserved c = quoted_pair c.loop-p.invariant c.loop-p-test.true c.after_byte-next.ensures c.if-bytes-p-ne34.false c.if-bytes-next.false c.if-bytes-next-ne34.false c.after_byte-p.ensures
-
-pub returns : goal.returns
-returns c = quoted_end c.loop-p.invariant c.loop-p-test.false

@@ -1,11 +1,8 @@
-use Rattle.event_write.proofs.WriteLaws.{all_remains, go_on_lem, done}
+use Rattle.event_write.proofs.WriteLaws.{go_on_lem, done}
 use Rattle.sheet.proofs.FieldLaws.{left_more, left_none, left_length}
 use native.Mathlib.Omega.{arith}
-use mathlib.Core.Path.{refl, ◌∙◌}
+use mathlib.Core.Path.{◌∙◌}
 use Rattle.sheet.proofs.field.put_seen.Goals as goal
-
-pub loop-p-init : goal.loop-p-init
-loop-p-init c = (omega arith, refl, all_remains _ _ _)
 
 pub put_one-next-requires : goal.put_one-next-requires
 put_one-next-requires c = let a = c.args in omega (arith, c.loop-p.invariant.2.place, left_length a.twice a.double a.raw.now, c.requires.fact_1, c.requires.fact_2)

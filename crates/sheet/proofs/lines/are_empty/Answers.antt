@@ -7,9 +7,6 @@ use Rattle.sheet.proofs.lines.are_empty.Goals as goal
 pub loop-cell-init : goal.loop-cell-init
 loop-cell-init c = emptied_first _ _ _ c.requires.fact_1
 
-pub cell_at-requires : goal.cell_at-requires
-cell_at-requires c = c.loop-cell.invariant.inside
-
 pub returns-in_default : goal.returns-in_default
 returns-in_default c = emptied_open c.loop-cell.invariant (cell_open _ _ _ _ (rw c.requires.fact_2 at c.in_default.ensures))
 

@@ -1,5 +1,4 @@
 use mathlib.Core.Path.{sym}
-use native.Mathlib.Omega.{arith}
 use Rattle.sheet.proofs.WalkLaws.{cell_found, cell_open}
 use Rattle.sheet.specs.Code.Seen.{seen}
 use Rattle.event.specs.Choice.{pick}
@@ -13,9 +12,6 @@ returns-then-is_remark c = remark_several _ _ (sym (rw c.requires at c.if-is_rem
 
 pub returns-in_err-cell : goal.returns-in_err-cell
 returns-in_err-cell c = rw c.from_residual.ensures (open_several _ _ (cell_open _ _ _ _ (rw c.requires at c.in_err-cell.ensures)))
-
-pub are_empty-requires : goal.are_empty-requires
-are_empty-requires c = record { fact_1 = omega arith; fact_2 = c.requires }
 
 pub returns-then-line-cell : goal.returns-then-line-cell
 unfolding seen pick

@@ -1,21 +1,9 @@
 use mathlib.Core.List.{[], ◌∷◌}
-use Rattle.event_write.proofs.WriteLaws.{all_remains, go_on_lem, done}
+use Rattle.event_write.proofs.WriteLaws.{go_on_lem, done}
 use Rattle.sheet.proofs.TableLeftLaws.{line_left, line_size, no_lines_left}
 use native.Mathlib.Omega.{arith}
 use mathlib.Core.Path.{refl, ◌∙◌}
 use Rattle.sheet.proofs.table.put_lines.Goals as goal
-
-pub loop-at-init : goal.loop-at-init
-loop-at-init c = (refl, all_remains _ _ _)
-
-pub slice_bounds-trim-count : goal.slice_bounds-trim-count
-slice_bounds-trim-count c = omega (arith, c.line_at-cut.ensures.low)
-
-pub slice_bounds-trim-start : goal.slice_bounds-trim-start
-slice_bounds-trim-start c = c.line_at-cut.ensures.low
-
-pub slice_bounds-trim-end : goal.slice_bounds-trim-end
-slice_bounds-trim-end c = c.line_at-cut.ensures.high
 
 pub put_line-next-requires : goal.put_line-next-requires
 put_line-next-requires c =
@@ -28,9 +16,6 @@ put_byte-next-requires c =
     let left = line_left a.sep a.table.now c.loop-at.at _ _ _ c.line_at-cut.ensures c.trim.ensures in
     let r = go_on_lem _ _ _ c.loop-at.invariant.1 left c.put_line-next.ensures in
     omega (arith, r.place, c.requires.fact_2)
-
-pub loop-at-smaller : goal.loop-at-smaller
-loop-at-smaller c = omega (arith, c.line_at-cut.ensures.more, c.line_at-cut.ensures.most)
 
 pub loop-at-preserved : goal.loop-at-preserved
 loop-at-preserved c =
