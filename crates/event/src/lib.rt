@@ -154,7 +154,8 @@ pub struct FrameRead {
     pub padding: u32,
 }
 
-// Before an event of a track: where it stands in the track's body, the Time so far, and the status in force (0: none).
+// Before an event of a track: where it stands in the track's body, the Time so far, and the status in force, a number as in
+// the definitions (0: none, `no_status`).
 #[derive(Clone, Copy)]
 pub struct Cursor {
     pub place: usize,

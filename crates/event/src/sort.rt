@@ -1,7 +1,7 @@
 // The byte after the delta, sorted by one table.
 
 // What the table says of a byte: four times the kind of event and, of a channel status, how many data bytes
-// follow.
+// follow. Numbers and no enum: request 9 asks for "a table of 256 numbers".
 pub const DATA_BYTE: u8 = 0;
 
 pub const ONE_FOLLOWS: u8 = 5;

@@ -19,7 +19,7 @@ const FILE_LIMIT: usize = 1048576;
 
 const MOST_TRACKS: u32 = 64;
 
-// No status byte: in a row it says that the track has come to its End_track.
+// No status byte: in a row it says that the track has come to its End_track. The clause fact_5 of `fold` shows statuses as numbers.
 const ENDED: u8 = 1;
 
 // The row of a track: where its next event stands, that event's Time, and the status in force before it; 1, which is no
@@ -32,7 +32,7 @@ struct Row {
 }
 
 // The piece of the file as one track of format 0, in manner 1, into lent room, with a lent row for each track: its place, Time and
-// status in three lists. Wherever the piece could be folded, even if the room is too small or the folded file too long, each row then shows its
+// status in three lists, of which the clauses fact_3 to fact_5 speak. Wherever the piece could be folded, even if the room is too small or the folded file too long, each row then shows its
 // track's End_track; on every other refusal the rows, and on any refusal the room, keep what they held.
 pub fn fold(
     file: &[u8],

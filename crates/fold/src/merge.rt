@@ -39,6 +39,7 @@ pub fn merge(
     let mut last = Time(0);
     let mut force: u8 = 0;
     let mut i = least(times, statuses, count);
+    // Which row comes next is searched for after each event: there is no index to count.
     'turn: loop {
         let none_left = count <= i;
         if none_left {

@@ -32,6 +32,7 @@ fn after_tracks(file: &[u8], from: usize) -> Result<(), Refused>
     ensures { answered result ≡ verdict (read_behind from (drop from file.now)) }
 {
     let mut at = from;
+    // A chunk says itself where the next begins: there is no index to count.
     while at < file.len() {
         if file.len() - at < 8 {
             return refuse(Refusal::FileCutShort, at);

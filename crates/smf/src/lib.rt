@@ -17,7 +17,8 @@ pub const HEADER_TAG: u32 = 0x4D546864;
 // The tag MTrk.
 pub const TRACK_TAG: u32 = 0x4D54726B;
 
-// What every operation answers: a refusal's number and place, or 0, 0 and the length written.
+// What every operation answers: a refusal's number and place, or 0, 0 and the length written. C gets these three, and public
+// clauses speak of the number (`Demand3`, `PaddingTold`); inside, a refusal is a `Refused`.
 #[derive(Clone, Copy)]
 pub struct Answer {
     pub number: u8,

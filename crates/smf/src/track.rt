@@ -14,6 +14,7 @@ pub fn next_track(file: &[u8], from: usize) -> Result<Chunk, Refused>
     ensures { told result ≡ chunk_step (length file.now) (read_chunk from (drop from file.now)) }
 {
     let mut at = from;
+    // A chunk says itself where the next begins: there is no index to count.
     loop {
         if file.len() < 8 {
             return refuse(Refusal::FileCutShort, at);
@@ -45,6 +46,7 @@ fn walk_track(body: &[u8], base: usize) -> Result<Walked, Refused>
     let mut cursor = start;
     let mut events: u32 = 0;
     let mut padding: u32 = 0;
+    // The cursor after an event comes with the event; an iterator would hold the same cursor and could not say where it stopped.
     loop {
         let read = match event::read::read_event(body, cursor) {
             Ok(read) => read,
