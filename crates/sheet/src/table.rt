@@ -63,7 +63,6 @@ fn put_lines(out: &mut [u8], table: &[u8], sep: u8) -> usize
     let mut next = 0;
     let mut at = 0;
     // each line tells where the next begins
-    // the same: each line tells where the next begins
     while at < table.len() {
         let cut = line_at(table, at);
         next = put_line(out, next, trim(&table[at..cut.end]), sep);
