@@ -6,9 +6,6 @@ use Rattle.midicsv_scan.proofs.fields.count_fields.Goals as goal
 pub loop-next-init : goal.loop-next-init
 loop-next-init c = counting_first _
 
-pub field_end-requires : goal.field_end-requires
-field_end-requires c = c.loop-next.invariant.high
-
 pub returns-in_err-next : goal.returns-in_err-next
 returns-in_err-next c = rw c.from_residual.ensures (counting_bad (bytes_of c.args.line.now (λ i. omega (arith, c.type_inv.line i))) c.loop-next.invariant c.in_err-next.ensures.fact_1)
 

@@ -7,9 +7,6 @@ use Rattle.midicsv_scan.proofs.fields.field_place.Goals as goal
 pub loop-n-init : goal.loop-n-init
 loop-n-init c = counting_first _
 
-pub field_end-requires : goal.field_end-requires
-field_end-requires c = c.loop-n.invariant.high
-
 pub returns-in_default : goal.returns-in_default
 returns-in_default c = place_bad (bytes_of c.args.line.now (λ i. omega (arith, c.type_inv.line i))) c.loop-n.invariant _ c.in_default.ensures.fact_1
 

@@ -1,10 +1,7 @@
-use Rattle.midicsv_scan.proofs.NumberLaws.{digit_range, going_first, going_small, going_on, going_stop, going_over, going_end}
+use Rattle.midicsv_scan.proofs.NumberLaws.{digit_range, going_small, going_on, going_stop, going_over, going_end}
 use native.Mathlib.Omega.{arith}
 use mathlib.Core.Path.{sym, ◌∙◌}
 use Rattle.midicsv_scan.proofs.number.digits.Goals as goal
-
-pub loop-p-init : goal.loop-p-init
-loop-p-init c = going_first _ _ c.requires
 
 pub returns-then-not-is_digit : goal.returns-then-not-is_digit
 returns-then-not-is_digit c = going_stop c.loop-p.invariant c.loop-p-test.true (sym c.is_digit.ensures ∙ c.if-not-is_digit.true)
