@@ -54,6 +54,9 @@ say("1d kinds by numbers: name, phase, status 1, place and separator 0 for none"
 say("3 loops by while or loop", matching(r"^\s*(while |loop \{|'\w+: loop)"))
 say("3b an index counted by hand", matching(r"^\s*(\w+) = \1 [+-] 1;|^\s*\w+ [+-]= 1;"))
 
+say("4a true and false answered by hand", matching(r"^\s*(return )?(true|false);?$"))
+say("4b bytes of ASCII written as numbers", matching(r"(const \w+: u8 = |[=<>!]=? )(9|1[03]|3[24]|3[59]|4[45678]|5[0-9]|92|9[57])\b[ ;)]"))
+
 
 # 5. facts in the contracts of three or more functions
 def facts():
