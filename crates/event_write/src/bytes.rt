@@ -1,4 +1,4 @@
-// Bytes, runs of bytes and numbers of two to four bytes.
+// Bytes, runs of bytes and numbers of up to four bytes.
 ghost use Rattle.std.specs.Prelude.{[], ◌∷◌, ◌<◌, ◌≤◌, ◌^◌, length};
 ghost use Rattle.event.specs.Bytes.{big_endian};
 ghost use Rattle.event_write.specs.Written.{Written};

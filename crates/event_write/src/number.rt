@@ -4,7 +4,7 @@ ghost use Rattle.std.specs.Prelude.{◌<◌, ◌^◌};
 ghost use Rattle.event_write.specs.Written.{Written};
 ghost use Rattle.event_write.specs.Head.{fewest};
 
-use super::bytes::{put_byte, put_bytes};
+use super::bytes::put_byte;
 
 // The greatest numbers that fit one, two and three bytes.
 const MOST_IN_ONE: u32 = 127;
@@ -23,21 +23,16 @@ pub fn put_number(out: &mut [u8], at: usize, number: u32) -> usize
         return put_byte(out, at, n as u8);
     }
     if n <= MOST_IN_TWO {
-        return put_bytes(out, at, &[(128 + n / 128) as u8, (n % 128) as u8]);
+        let a = put_byte(out, at, (128 + n / 128) as u8);
+        return put_byte(out, a, (n % 128) as u8);
     }
     if n <= MOST_IN_THREE {
-        let bytes = [
-            (128 + n / 16384) as u8,
-            (128 + n / 128 % 128) as u8,
-            (n % 128) as u8,
-        ];
-        return put_bytes(out, at, &bytes);
+        let a = put_byte(out, at, (128 + n / 16384) as u8);
+        let b = put_byte(out, a, (128 + n / 128 % 128) as u8);
+        return put_byte(out, b, (n % 128) as u8);
     }
-    let bytes = [
-        (128 + n / 2097152) as u8,
-        (128 + n / 16384 % 128) as u8,
-        (128 + n / 128 % 128) as u8,
-        (n % 128) as u8,
-    ];
-    put_bytes(out, at, &bytes)
+    let a = put_byte(out, at, (128 + n / 2097152) as u8);
+    let b = put_byte(out, a, (128 + n / 16384 % 128) as u8);
+    let c = put_byte(out, b, (128 + n / 128 % 128) as u8);
+    put_byte(out, c, (n % 128) as u8)
 }

@@ -30,7 +30,7 @@ fn scan_track(body: &[u8], base: usize) -> Option<usize>
     ensures { looked result ≡ look_answer (track_free (placed_of (walked_body base body.now)) fine) }
 {
     let mut cursor = Cursor::start(0);
-    // The cursor after an event comes with the event.
+    // The cursor after an event comes with the event; an iterator would hold the same cursor and could not say where it stopped.
     loop {
         let Ok(read) = event::read::read_event(body, cursor) else {
             return None;

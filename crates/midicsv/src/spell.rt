@@ -1,7 +1,7 @@
 // A text spelled for a cell of a sheet (docs/SPREADSHEET.md). Each writer writes only where there is room and answers the place after.
 #![tactic(auto, unfolding(crate::specs::Spell::octal, crate::specs::Spell::or_octal, crate::specs::Spell::is_mark, crate::specs::Spell::is_solid, crate::specs::Spell::stands_inside, crate::specs::Spell::stands_last, event::specs::Choice::pick))]
 
-ghost use Rattle.std.specs.Prelude.{◌≡◌, ◌&&◌, ◌<◌, ◌≤◌, ◌^◌, length, get_or, drop};
+ghost use Rattle.std.specs.Prelude.{◌≡◌, ◌&&◌, ◌<◌, ◌^◌, length};
 ghost use Rattle.event_write.specs.Written.{Written};
 ghost use Rattle.midicsv.specs.Spell.{octal, or_octal, is_mark, is_solid, stands_inside, stands_last, is_truth, spell_rest, spell_short, octal_all, spell_text};
 ghost use Rattle.midicsv.specs.Show.{as_sheet, quote};

@@ -75,6 +75,7 @@ pub fn text_to_file(text: &[u8], manner: u32, out: &mut [u8]) -> Answer
             if out.len() < need {
                 return Answer::room_needed(need);
             }
+            // The same text as before, which was not refused.
             let _ = pass(out, text, manner == 1);
             Answer::success(need)
         }

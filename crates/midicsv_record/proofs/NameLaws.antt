@@ -1,6 +1,6 @@
 -- The names one by one.
 use mathlib.Core.Path.{◌≡◌, refl}
-use Prim.Native.Nat.{ℕ, ◌+◌, ◌<◌, ◌≤◌}
+use Prim.Native.Nat.{ℕ, zero, suc, ◌+◌, ◌<◌, ◌≤◌}
 use native.Mathlib.Omega.{arith}
 use native.Mathlib.Numerals.{add-one}
 use lib.ListN.{get_or, drop, drop_of_length-le}
@@ -77,3 +77,12 @@ module _ (s : List ℕ) (i : ℕ) where
   pub not_found : 29 ≤ i → name_as None ≡ find s (drop i all_names)
   unfolding name_as find
   not_found h = rw (drop_of_length-le all_names h)
+
+-- what the last arm of a match on the numbers under k knows
+abbrev pub NoneUnder : ℕ → ℕ → Type 0
+NoneUnder zero n = Unit {0}
+NoneUnder (suc k) n = NoneUnder k n × (n ≡ k → ⊥)
+
+pub none_under : (k n : ℕ) → NoneUnder k n → k ≤ n
+none_under zero n h = omega arith
+none_under (suc k) n h = let low : k ≤ n = none_under k n h.0 in omega (arith, h.1)

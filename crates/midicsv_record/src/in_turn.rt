@@ -1,5 +1,5 @@
 // The fields of a line in turn, each from the comma before it on.
-ghost use Rattle.std.specs.Prelude.{◌≡◌, ◌≤◌, drop};
+ghost use Rattle.std.specs.Prelude.{◌≡◌, drop};
 ghost use Rattle.midicsv_scan.specs.FieldAt.{field_as, Within};
 ghost use Rattle.midicsv_record.specs.Table.{columns_at, column_as};
 ghost use Rattle.midicsv_record.specs.InTurn.{field_after, column_after, columns_after, cell_as, columns_as};

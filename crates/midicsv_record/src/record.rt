@@ -1,5 +1,5 @@
 // The record of a line that has no fault, its fields read in turn.
-ghost use Rattle.std.specs.Prelude.{◌≡◌, ◌≤◌, drop};
+ghost use Rattle.std.specs.Prelude.{◌≡◌, drop};
 ghost use Rattle.midicsv_record.specs.Name.{name_at};
 ghost use Rattle.midicsv.specs.ReadRecord.{together};
 ghost use Rattle.midicsv_record.specs.InTurn.{named_after, record_after, record_in_turn, row_as, RowInside};

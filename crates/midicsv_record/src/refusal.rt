@@ -1,5 +1,5 @@
 // The refusal of a line that has a fault, by the tests in the order of document 01: 22, 24, 23, 24 with the Length's 25, 25.
-ghost use Rattle.std.specs.Prelude.{◌≡◌, ◌≤◌, eqb, Some};
+ghost use Rattle.std.specs.Prelude.{◌≡◌, eqb, Some};
 ghost use Rattle.event.specs.Refusal.{number_of};
 ghost use Rattle.midicsv.specs.Result.{good, bad, test};
 ghost use Rattle.midicsv.specs.ReadRecord.{read_line};

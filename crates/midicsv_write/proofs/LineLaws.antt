@@ -1,10 +1,15 @@
 -- The fields of a record in a row, the parts of a record's line, and how long they are.
 use mathlib.Core.Path.{◌≡◌, refl, sym, ap, subst, ◌∙◌}
 use Prim.Native.Nat.{ℕ, zero, suc, ◌+◌, ◌*◌, ◌-◌, ◌≤◌, zero-le}
+use mathlib.Core.Bool.{Bool, true, ◌&&◌, ◌||◌}
+use mathlib.Core.Logic.{inl, inr}
 use mathlib.Core.List.{List, [], ◌∷◌, ◌++◌, append_assoc, append-nil}
 use native.Mathlib.Omega.{arith}
-use lib.ListN.{length, length-append}
-use lib.Dec.{ltb, eqb}
+use denote.Enum.Declared.{tag_of}
+use types.Run.{OneOf}
+use lib.ListN.{length, get_or, length-append}
+use lib.Dec.{leb, ltb, eqb}
+use borrow.Author.Tests.{leb-true, ltb-true}
 use Rattle.event.specs.Choice.{pick}
 use Rattle.event.specs.Event.{Event, Kind, note_off, note_on, poly_aftertouch, control, program, channel_aftertouch, pitch_bend, system_exclusive, system_exclusive_packet, sequence_number, text, channel_prefix, midi_port, end_track, tempo, smpte_offset, time_signature, key_signature, sequencer_specific, unknown_meta}
 use Rattle.event.specs.Reader.{key_of}
@@ -12,7 +17,8 @@ use Rattle.event.specs.Step.{kind_from}
 use Rattle.event.specs.declared.Time.{Time}
 use Rattle.event.specs.declared.EventKind.{EventKind}
 use Rattle.event.specs.declared.EventKind.TheVariants.{NoteOff, NoteOn, PolyAftertouch, Control, Program, ChannelAftertouch, PitchBend, SystemExclusive, SystemExclusivePacket, SequenceNumber, Text, ChannelPrefix, MidiPort, EndTrack, Tempo, SmpteOffset, TimeSignature, KeySignature, SequencerSpecific, UnknownMeta}
-use Rattle.event.proofs.ChoiceLaws.{by_test}
+use Rattle.event.specs.contracts.EventKind.{the_type}
+use Rattle.event.proofs.ChoiceLaws.{by_test, or_cases, and_both}
 use Rattle.event_write.specs.Written.{Written}
 use Rattle.event_write.proofs.DataLaws.{data_length}
 use Rattle.midicsv.specs.Field.{bytes, digits_of, decimal, Field, num}
@@ -23,7 +29,7 @@ use Rattle.midicsv.specs.Text.{mark, event_record, records_text}
 use Rattle.midicsv.proofs.KindAcceptedLaws.{key_same}
 use Rattle.midicsv.proofs.FieldLaws.{decimal_length, quote_length, gap_length, data_length as fields-length}
 use Rattle.midicsv.proofs.LineBoundLaws.{mode_shown}
-use Rattle.midicsv_write.specs.Line.{event_from, column_fields, body_fields, line, header_for}
+use Rattle.midicsv_write.specs.Line.{event_from, column_fields, column_count, body_fields, line, header_for}
 
 -- ---- fields in a row
 
@@ -234,3 +240,50 @@ pub event_line : (w : Form) (track : ℕ) (t : Time) (body : List ℕ) (k : Even
     → start_of w track t.0 ++ (event_spelled (name_of (kind_from [] k)) ++ (further w (column_fields (kind_from [] k)) ++ (further w (body_fields (kind_from body k)) ++ (10 ∷ []))))
     ≡ line w (event_record track (event_from t body k))
 event_line w track t body k = rw ((same_row body k).columns, (same_row body k).names) (whole_line w track (event_from t body k))
+
+-- ---- the number of columns, by the tags of the code's enum
+
+abbrev column_counts : List ℕ
+column_counts = 3 ∷ 3 ∷ 3 ∷ 3 ∷ 2 ∷ 2 ∷ 2 ∷ 0 ∷ 0 ∷ 1 ∷ 0 ∷ 1 ∷ 1 ∷ 0 ∷ 1 ∷ 5 ∷ 4 ∷ 2 ∷ 0 ∷ 1 ∷ []
+
+tag_count : (k : EventKind) → column_count k ≡ get_or column_counts (tag_of the_type k) 0
+unfolding kind_from name_of event_shape values_of fields_of tail_fields
+tag_count (NoteOff a b c) = refl
+tag_count (NoteOn a b c) = refl
+tag_count (PolyAftertouch a b c) = refl
+tag_count (Control a b c) = refl
+tag_count (Program a b) = refl
+tag_count (ChannelAftertouch a b) = refl
+tag_count (PitchBend a b) = refl
+tag_count (SystemExclusive a b) = refl
+tag_count (SystemExclusivePacket a b) = refl
+tag_count (SequenceNumber a) = refl
+tag_count (Text t a b) = refl
+tag_count (ChannelPrefix a) = refl
+tag_count (MidiPort a) = refl
+tag_count EndTrack = refl
+tag_count (Tempo a) = refl
+tag_count (SmpteOffset a b c d e) = refl
+tag_count (TimeSignature a b c d) = refl
+tag_count (KeySignature a b) = refl
+tag_count (SequencerSpecific a b) = refl
+tag_count (UnknownMeta t a b) = refl
+
+abbrev all_of : (ℕ → Bool) → List ℕ → Bool
+all_of p [] = true
+all_of p (t ∷ ts) = p t && all_of p ts
+
+one_of : (p : ℕ → Bool) (ts : List ℕ) (t : ℕ) → all_of p ts ≡ true → OneOf ts t → p t ≡ true
+one_of p [] t e h = absurd h
+one_of p (x ∷ []) t e h = ap p h ∙ (and_both (p x) true e).0
+one_of p (x ∷ y ∷ ts) t e (inl h) = ap p h ∙ (and_both (p x) _ e).0
+one_of p (x ∷ y ∷ ts) t e (inr h) = one_of p (y ∷ ts) t (and_both (p x) _ e).1 h
+
+-- a tag with at most n columns, or more than m
+abbrev Fewer : ℕ → ℕ → ℕ → Bool
+Fewer n m t = leb (get_or column_counts t 0) n || ltb m (get_or column_counts t 0)
+
+fewer : (n m : ℕ) (ts : List ℕ) (k : EventKind) → all_of (Fewer n m) ts ≡ true → OneOf ts (tag_of the_type k) → column_count k ≤ m → column_count k ≤ n
+fewer n m ts k e h most =
+    let told : (leb (column_count k) n || ltb m (column_count k)) ≡ true = ap (λ c. leb c n || ltb m c) (tag_count k) ∙ one_of (Fewer n m) ts (tag_of the_type k) e h in
+    or_cases (leb (column_count k) n) (ltb m (column_count k)) told (λ t. leb-true (column_count k) n t) (λ t. absurd (omega (arith, ltb-true m (column_count k) t)))

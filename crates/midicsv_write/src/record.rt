@@ -1,7 +1,7 @@
 // The lines of records written, in a text or (`sheet`) in a sheet. Each writes only where there is room and answers the place after.
 #![tactic(auto, using(event_write::proofs::WriteLaws::nothing, event_write::proofs::DataLaws::data_length), unfolding(event::specs::Step::kind_from, midicsv::specs::Record::name_of, midicsv::specs::Record::values_of, midicsv::specs::Record::fields_of, midicsv::specs::Record::column_field, midicsv::specs::Record::tail_fields, midicsv::specs::Record::data_fields, midicsv::specs::Table::event_shape, midicsv::specs::Show::further))]
 
-ghost use Rattle.std.specs.Prelude.{[], ◌∷◌, ◌++◌, ◌≤◌, ◌<◌, ◌^◌, length};
+ghost use Rattle.std.specs.Prelude.{[], ◌++◌, ◌≤◌, ◌<◌, ◌^◌, length};
 ghost use Rattle.event.specs.Step.{kind_from};
 ghost use Rattle.event_write.specs.Written.{Written};
 ghost use Rattle.midicsv.specs.Field.{decimal, num};

@@ -1,6 +1,6 @@
 // File to text and file to sheet: a file's piece written as records. The writers below write only where there is room and
 // answer the place after: lent no room, they measure.
-ghost use Rattle.std.specs.Prelude.{◌≡◌, [], ◌∷◌, ◌+◌, ◌≤◌, ◌<◌, ◌^◌, length, drop};
+ghost use Rattle.std.specs.Prelude.{◌≡◌, [], ◌∷◌, ◌≤◌, ◌<◌, ◌^◌, length, drop};
 ghost use Rattle.event.specs.Outcome.{Readable, value_or};
 ghost use Rattle.event_write.specs.Written.{Written};
 ghost use Rattle.smf.specs.Reader.{read_all, read_tracks, read_header, read_file};
@@ -31,7 +31,7 @@ fn put_events(out: &mut [u8], from: usize, body: &[u8], track: u32, sheet: bool)
 {
     let mut next = from;
     let mut cursor = Cursor::start(0);
-    // The cursor after an event comes with the event.
+    // The cursor after an event comes with the event; an iterator would hold the same cursor and could not say where it stopped.
     loop {
         let Ok(read) = event::read::read_event(body, cursor) else {
             return next;

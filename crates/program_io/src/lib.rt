@@ -1,7 +1,7 @@
 // What the programs share: a file read into a buffer, and the lines in which they list what came.
 #![tactic(auto)]
 
-ghost use Rattle.std.specs.Prelude.{Some, ◌++◌, ◌≤◌, take, length};
+ghost use Rattle.std.specs.Prelude.{Some, ◌≤◌, take, length};
 ghost use Rattle.std.specs.Io.KnownBytes.{Consumes};
 ghost use Rattle.program_io.specs.Shown.{listed, answer_text};
 

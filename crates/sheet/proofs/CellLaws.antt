@@ -45,9 +45,6 @@ module _ {sep : ℕ} {twice : Bool} {l : List ℕ} {a b : ℕ} (g : Bare sep twi
     free = ap (has sep) (grown g.reached h p) ∙ has_more sep (get_or l b 0) (seen twice (slice a b l)) g.free (ne_eqb (get_or l b 0) sep e);
   }
 
-  pub bare_stop : get_or l b 0 ≡ sep → BareEnd sep twice l a b
-  bare_stop e = record { reached = g.reached; free = g.free; parted = λ h. e }
-
   pub bare_last : length l ≤ b → BareEnd sep twice l a b
   bare_last k = record { reached = g.reached; free = g.free; parted = λ h. absurd (omega arith) }
 

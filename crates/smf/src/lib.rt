@@ -47,6 +47,7 @@ impl Answer {
         }
     }
 
+    // A refusal by its name.
     pub fn refuse(why: Refusal, place: usize) -> Answer
         ensures { result ≡ refusal (number_of why) place }
     {
@@ -57,7 +58,7 @@ impl Answer {
         ensures { result ≡ room_needed length }
     {
         Answer {
-            number: 14,
+            number: Refusal::RoomTooSmall.number(),
             place: 0,
             length,
         }
@@ -72,6 +73,7 @@ pub struct Refused {
 }
 
 impl Refused {
+    // As an operation answers it.
     pub fn answer(self) -> Answer
         ensures { result ≡ refusal (number_of self.why) self.place }
     {
@@ -79,6 +81,7 @@ impl Refused {
     }
 }
 
+// The end of a function that reads something of any kind.
 fn refuse<T>(why: Refusal, place: usize) -> Result<T, Refused>
     ensures { result ≡ Err (record { why = why; place = place }) }
 {

@@ -57,7 +57,7 @@ fn put_events(out: &mut [u8], from: usize, body: &[u8], short: bool) -> usize
 {
     let mut next = from;
     let mut cursor = Cursor::start(0);
-    // The cursor after an event comes with the event.
+    // The cursor after an event comes with the event; an iterator would hold the same cursor and could not say where it stopped.
     loop {
         let Ok(read) = event::read::read_event(body, cursor) else {
             return next;
