@@ -33,7 +33,7 @@ unfolding find
 find_same s a [] e = refl
 find_same s a (n ∷ ns) e = rw (same_as s a (spelled n) e, find_same s a ns e)
 
-named : (s a : List ℕ) → same_name s a ≡ true → text_of_name (find a all_names) ≡ text_of_name (find s all_names)
+pub named : (s a : List ℕ) → same_name s a ≡ true → text_of_name (find a all_names) ≡ text_of_name (find s all_names)
 named s a e = ap text_of_name (sym (find_same s a all_names e))
 
 -- ---- a name that is none of those with a text
@@ -73,7 +73,7 @@ module _ (s : List ℕ) where
       past_one (same_name s (spelled n)) n (find s (ns ++ ms)) (nowhere_is (text_of_name (good n)) x) (past ns ms y h)
 
   -- of the names with a text it is none
-  unnamed : same_name s (bytes "Text_t") ≡ false → same_name s (bytes "Copyright_t") ≡ false → same_name s (bytes "Title_t") ≡ false → same_name s (bytes "Instrument_name_t") ≡ false
+  pub unnamed : same_name s (bytes "Text_t") ≡ false → same_name s (bytes "Copyright_t") ≡ false → same_name s (bytes "Title_t") ≡ false → same_name s (bytes "Instrument_name_t") ≡ false
       → same_name s (bytes "Lyric_t") ≡ false → same_name s (bytes "Marker_t") ≡ false → same_name s (bytes "Cue_point_t") ≡ false → same_name s (bytes "Key_signature") ≡ false
       → text_of_name (find s all_names) ≡ nowhere
   unfolding no_text is_nowhere text_of_name text_from shape event_shape spelled event_spelled find

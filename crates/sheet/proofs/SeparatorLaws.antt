@@ -22,7 +22,7 @@ unmarked_short (a ∷ []) h = refl
 unmarked_short (a ∷ b ∷ []) h = refl
 unmarked_short (a ∷ b ∷ c ∷ s) h = absurd (omega arith)
 
-unmarked_long : (s : List ℕ) → 3 ≤ length s
+pub unmarked_long : (s : List ℕ) → 3 ≤ length s
     → pick (eqb (get_or s 0 0) 239 && (eqb (get_or s 1 0) 187 && eqb (get_or s 2 0) 191)) (drop 3 s) s ≡ unmarked s
 unfolding unmarked
 unmarked_long [] h = absurd (omega arith)

@@ -42,18 +42,18 @@ struct Content<'a> {
 // A cell of a part of a line: its bytes (between the quotes, where it is quoted), and the place of the
 // separator after it or the part's end.
 #[derive(Clone, Copy)]
-struct Cell {
-    from: usize,
-    to: usize,
-    quoted: bool,
-    next: usize,
+pub struct Cell {
+    pub from: usize,
+    pub to: usize,
+    pub quoted: bool,
+    pub next: usize,
 }
 
 // The cells of a row: how many, how many up to the last that is not empty, and how many stand before the
 // text, where the row has one.
 #[derive(Clone, Copy)]
-struct Row {
-    cells: usize,
-    kept: usize,
-    place: Option<usize>,
+pub struct Row {
+    pub cells: usize,
+    pub kept: usize,
+    pub place: Option<usize>,
 }

@@ -25,12 +25,17 @@ pub fn after_byte(bytes: &[u8], at: usize, twice: bool) -> usize
     at + 1
 }
 
-// A space, or a tab where that does not separate.
+// A space, or a tab where that does not separate. A `match`, so that the loops over it look at `sep` for a tab alone: `&&` and `||` of
+// comparisons become one test of both for every byte.
 #[tactic(auto, unfolding(sheet_table::specs::Cut::blank_beside))]
 pub fn is_blank_beside(sep: u8, c: u8) -> bool
     ensures { result ≡ blank_beside sep c }
 {
-    c == b' ' || (c == TAB && sep != TAB)
+    match c {
+        b' ' => true,
+        TAB => sep != TAB,
+        _ => false,
+    }
 }
 
 impl<'a> LinePart<'a> {

@@ -20,6 +20,19 @@ use smf::{Answer, HEADER_TAG, HeaderRead, TRACK_TAG};
 // The longest file that is written, in bytes.
 const FILE_LIMIT: usize = 1048576;
 
+// An event's data. Where no room is left, as when a file is measured, nothing goes through it byte by byte.
+#[tactic(auto, using(crate::proofs::RoomLaws::past_room))]
+fn put_data(out: &mut [u8], at: usize, bytes: &[u8]) -> usize
+    requires fact_1 { at < 2 ^ 47 }
+    requires fact_2 { length bytes.now < 2 ^ 46 }
+    ensures { Written out.old at bytes.now out.new result }
+{
+    if out.len() <= at {
+        return at + bytes.len();
+    }
+    put_bytes(out, at, bytes)
+}
+
 // An event of a track's body, with its data; force is the status in force before it.
 pub fn put_event(
     out: &mut [u8],
@@ -38,7 +51,7 @@ pub fn put_event(
     let place = event::read::data_place(kind);
     let start = place.start;
     let len = place.len;
-    put_bytes(out, p, event::number::event_data(body, start, len))
+    put_data(out, p, event::number::event_data(body, start, len))
 }
 
 // The delta from an earlier Time to a Time.
