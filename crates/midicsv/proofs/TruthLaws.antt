@@ -162,7 +162,7 @@ no_length d h = sym (none_fair d truth_words h refl)
 
 -- ---- without a blank at its end
 
-blank_dropped : (k : ℕ) (d : List ℕ) → length d ≡ k + 1 → get_or d k 0 ≡ 32 → take k d ≡ unblanked d
+pub blank_dropped : (k : ℕ) (d : List ℕ) → length d ≡ k + 1 → get_or d k 0 ≡ 32 → take k d ≡ unblanked d
 unfolding unblanked pick
 blank_dropped k [] h e = absurd (omega arith)
 blank_dropped zero (c ∷ []) h e = rw e
@@ -170,7 +170,7 @@ blank_dropped (suc k) (c ∷ []) h e = absurd (omega arith)
 blank_dropped zero (c ∷ x ∷ l) h e = absurd (omega arith)
 blank_dropped (suc k) (c ∷ x ∷ l) h e = ap (λ m. c ∷ m) (blank_dropped k (x ∷ l) (omega arith) e)
 
-no_blank_lem : (k : ℕ) (d : List ℕ) → length d ≡ k + 1 → (get_or d k 0 ≡ 32 → ⊥) → d ≡ unblanked d
+pub no_blank_lem : (k : ℕ) (d : List ℕ) → length d ≡ k + 1 → (get_or d k 0 ≡ 32 → ⊥) → d ≡ unblanked d
 unfolding unblanked pick
 no_blank_lem k [] h e = absurd (omega arith)
 no_blank_lem zero (c ∷ []) h e = rw (ne_eqb c 32 e)
@@ -178,7 +178,7 @@ no_blank_lem (suc k) (c ∷ []) h e = absurd (omega arith)
 no_blank_lem zero (c ∷ x ∷ l) h e = absurd (omega arith)
 no_blank_lem (suc k) (c ∷ x ∷ l) h e = ap (λ m. c ∷ m) (no_blank_lem k (x ∷ l) (omega arith) e)
 
-empty_unblanked : (d : List ℕ) → length d ≡ 0 → d ≡ unblanked d
+pub empty_unblanked : (d : List ℕ) → length d ≡ 0 → d ≡ unblanked d
 unfolding unblanked
 empty_unblanked [] h = refl
 empty_unblanked (c ∷ d) h = absurd (omega arith)
